@@ -1,0 +1,5 @@
+pub mod Bytes
+pub mod Causes
+pub mod Counts
+pub mod Devices
+pub mod Faults
