@@ -1,0 +1,174 @@
+-- The definitions on worked examples, computed. Fork: from at0 by a and b to at2, and from there by
+-- l to the left end atl or by r to the right end atr. Keep: its one action deletes and adds the same
+-- atom. Doors: one of two doors is open for good, and the other shut.
+use Rattle.std.specs.Prelude.{◌≡◌, ℕ, Bool, true, false, nat_eq, codes, List, [], ◌∷◌, map, Option, Some, None, refl}
+use Rattle.std.specs.Option.{option_map}
+use Rattle.std.specs.Cmp.Lexicographic.{pointwise}
+use Rattle.std.proofs.Common.{inl, inr, arith, rules}
+use Rattle.grd_base.specs.declared.ids.AtomId.{AtomId}
+use Rattle.grd_base.specs.declared.ids.ActionId.{ActionId}
+use Rattle.grd_base.specs.declared.ids.GoalId.{GoalId}
+use Rattle.strips_model.specs.Values.{PlainTask, GroundAction}
+use Rattle.strips_model.specs.Plans.{State, is_step, step, step_without, after, goal_holds, start_of, IsCost, Embeds}
+use Rattle.strips_model.specs.Worlds.{Instance, World, task_of}
+
+-- atoms by their names, as bytes
+abbrev Name : Type 0
+Name = List ℕ
+
+abbrev same : Name → Name → Bool
+same = pointwise nat_eq
+
+abbrev atom : ℕ → AtomId
+atom n = record { 0 = n }
+
+abbrev action : ℕ → ActionId
+action n = record { 0 = n }
+
+abbrev goal : ℕ → GoalId
+goal n = record { 0 = n }
+
+-- the state after a sequence from the start
+abbrev from_start : PlainTask → List ActionId → List ActionId → Option State
+from_start t removed p = after t removed (start_of t) p
+
+-- which of the first five atoms are true in a state that is reached
+abbrev seen : Option State → Option (List Bool)
+seen o = option_map (λ s. map s (0 ∷ 1 ∷ 2 ∷ 3 ∷ 4 ∷ [])) o
+
+-- which of the first four goals hold in a state that is reached
+abbrev held : PlainTask → Option State → Option (List Bool)
+held t o = option_map (λ s. map (λ n. goal_holds t (goal n) s) (0 ∷ 1 ∷ 2 ∷ 3 ∷ [])) o
+
+abbrev from_to : Name → Name → Instance Name
+from_to p q = record { pre = p ∷ []; add = q ∷ []; del = p ∷ [] }
+
+-- its second goal names its atoms out of order and one of them twice
+abbrev fork : World Name
+fork = record {
+  fluents = codes "at0" ∷ codes "at1" ∷ codes "at2" ∷ codes "atl" ∷ codes "atr" ∷ [];
+  init = codes "at0" ∷ [];
+  actions = from_to (codes "at0") (codes "at1")
+      ∷ from_to (codes "at1") (codes "at2")
+      ∷ from_to (codes "at2") (codes "atl")
+      ∷ from_to (codes "at2") (codes "atr")
+      ∷ [];
+  goals = (codes "atl" ∷ [])
+      ∷ (codes "atr" ∷ codes "at0" ∷ codes "atr" ∷ [])
+      ∷ (codes "at0" ∷ [])
+      ∷ [];
+}
+
+abbrev by_numbers : ℕ → ℕ → GroundAction
+by_numbers p q = record { pre = atom p ∷ []; add = atom q ∷ []; del = atom p ∷ []; blocked = false }
+
+abbrev fork_task : PlainTask
+fork_task = record {
+  atoms = 5;
+  init = atom 0 ∷ [];
+  actions = by_numbers 0 1 ∷ by_numbers 1 2 ∷ by_numbers 2 3 ∷ by_numbers 2 4 ∷ [];
+  goals = (record { atoms = atom 3 ∷ []; blocked = false })
+      ∷ (record { atoms = atom 0 ∷ atom 4 ∷ []; blocked = false })
+      ∷ (record { atoms = atom 0 ∷ []; blocked = false })
+      ∷ [];
+}
+
+fork_by_numbers : task_of same fork ≡ fork_task
+fork_by_numbers = refl
+
+abbrev a : ActionId
+a = action 0
+
+abbrev b : ActionId
+b = action 1
+
+abbrev l : ActionId
+l = action 2
+
+a_b_l_ends_left : seen (from_start fork_task [] (a ∷ b ∷ l ∷ [])) ≡ Some (false ∷ false ∷ false ∷ true ∷ false ∷ [])
+unfolding after step_without step
+a_b_l_ends_left = refl
+
+-- the first goal alone; there is no fourth
+a_b_l_reaches_left : held fork_task (from_start fork_task [] (a ∷ b ∷ l ∷ [])) ≡ Some (true ∷ false ∷ false ∷ false ∷ [])
+unfolding after step_without step
+a_b_l_reaches_left = refl
+
+l_not_at_start : is_step fork_task (start_of fork_task) l ≡ false
+unfolding is_step
+l_not_at_start = refl
+
+l_leads_nowhere : from_start fork_task [] (l ∷ []) ≡ None
+unfolding after step_without step
+l_leads_nowhere = refl
+
+removed_leads_nowhere : from_start fork_task (b ∷ []) (a ∷ b ∷ l ∷ []) ≡ None
+unfolding after step_without step
+removed_leads_nowhere = refl
+
+-- the task has no action with this number
+unknown_leads_nowhere : from_start fork_task [] (action 4 ∷ []) ≡ None
+unfolding after step_without step
+unknown_leads_nowhere = refl
+
+-- a goal that holds at the start costs nothing
+at0_costs_nothing : IsCost fork_task (goal 2) [] (Some 0)
+unfolding after
+at0_costs_nothing = (([], refl, refl), λ p _. omega arith)
+
+abbrev keep : World Name
+keep = record {
+  fluents = codes "p" ∷ codes "q" ∷ [];
+  init = codes "p" ∷ [];
+  actions = (record { pre = codes "p" ∷ []; add = codes "q" ∷ codes "p" ∷ []; del = codes "p" ∷ [] }) ∷ [];
+  goals = (codes "p" ∷ codes "q" ∷ []) ∷ [];
+}
+
+deleted_and_added_is_true : seen (from_start (task_of same keep) [] (action 0 ∷ [])) ≡ Some (true ∷ true ∷ false ∷ false ∷ false ∷ [])
+unfolding after step_without step
+deleted_and_added_is_true = refl
+
+abbrev through : Name → Instance Name
+through door = record { pre = door ∷ []; add = codes "inside" ∷ []; del = [] }
+
+abbrev doors : World Name
+doors = record {
+  fluents = codes "inside" ∷ [];
+  init = codes "open" ∷ [];
+  actions = through (codes "open") ∷ through (codes "shut") ∷ [];
+  goals = (codes "inside" ∷ codes "open" ∷ []) ∷ (codes "inside" ∷ codes "shut" ∷ []) ∷ [];
+}
+
+-- static atoms leave the lists, and a false one blocks
+abbrev doors_task : PlainTask
+doors_task = record {
+  atoms = 1;
+  init = [];
+  actions = (record { pre = []; add = atom 0 ∷ []; del = []; blocked = false })
+      ∷ (record { pre = []; add = atom 0 ∷ []; del = []; blocked = true })
+      ∷ [];
+  goals = (record { atoms = atom 0 ∷ []; blocked = false })
+      ∷ (record { atoms = atom 0 ∷ []; blocked = true })
+      ∷ [];
+}
+
+doors_by_numbers : task_of same doors ≡ doors_task
+doors_by_numbers = refl
+
+blocked_leads_nowhere : from_start doors_task [] (action 1 ∷ []) ≡ None
+unfolding after step_without step
+blocked_leads_nowhere = refl
+
+blocked_goal_never_holds : held doors_task (from_start doors_task [] (action 0 ∷ [])) ≡ Some (true ∷ false ∷ false ∷ false ∷ [])
+unfolding after step_without step
+blocked_goal_never_holds = refl
+
+a_then_l : Embeds (a ∷ l ∷ []) (a ∷ b ∷ l ∷ [])
+a_then_l = inl (refl, inr (inl (refl, tt)))
+
+no_l_then_a : Embeds (l ∷ a ∷ []) (a ∷ b ∷ l ∷ []) → ⊥
+no_l_then_a h = search rules
+
+-- one step serves one observation
+no_a_twice : Embeds (a ∷ a ∷ []) (a ∷ b ∷ l ∷ []) → ⊥
+no_a_twice h = search rules

@@ -1,0 +1,4 @@
+pub mod Values
+pub mod Plans
+pub mod Reached
+pub mod Worlds

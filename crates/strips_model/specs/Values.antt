@@ -1,0 +1,46 @@
+-- What contracts see of a task: its fields, with lists in the place of vectors.
+use Rattle.std.specs.Prelude.{ℕ, ◌^◌, ◌<◌, ◌≤◌, Bool, List, length}
+use Rattle.std.specs.List.{All}
+use Rattle.grd_base.specs.declared.ids.AtomId.{AtomId}
+use Rattle.grd_base.specs.Rising.{IsRisingBy}
+
+-- a ground action: what it needs, what it makes true and what it makes false;
+-- it is blocked where a static atom that it needs is false
+pub record GroundAction : Type 0 where
+  pub pre : List AtomId
+  pub add : List AtomId
+  pub del : List AtomId
+  pub blocked : Bool
+
+-- a goal: the atoms that have to be true; it is blocked where a static atom of it is false
+pub record Goal : Type 0 where
+  pub atoms : List AtomId
+  pub blocked : Bool
+
+-- a task: how many atoms there are, those that are true at the start, the actions and the goals;
+-- atoms, actions and goals are numbered from 0
+pub record PlainTask : Type 0 where
+  pub atoms : ℕ
+  pub init : List AtomId
+  pub actions : List GroundAction
+  pub goals : List Goal
+
+-- atoms in rising order, without repeats, with every number below the bound
+pub record AreAtoms (bound : ℕ) (xs : List AtomId) : Type 0 where
+  pub rise : IsRisingBy (λ a. a.0) xs
+  pub below : All (λ a. a.0 < bound) xs
+
+-- an action over the atoms below the bound
+pub record IsActionBelow (bound : ℕ) (a : GroundAction) : Type 0 where
+  pub pre : AreAtoms bound a.pre
+  pub add : AreAtoms bound a.add
+  pub del : AreAtoms bound a.del
+
+-- what holds of every task: its lists rise and name its own atoms, and its counts keep the limits
+pub record IsTask (t : PlainTask) : Type 0 where
+  pub width : t.atoms ≤ 4096
+  pub init : AreAtoms t.atoms t.init
+  pub actions : All (IsActionBelow t.atoms) t.actions
+  pub goals : All (λ g. AreAtoms t.atoms g.atoms) t.goals
+  pub few_actions : length t.actions ≤ 2 ^ 21
+  pub few_goals : length t.goals ≤ 32

@@ -1,0 +1,11 @@
+// Tasks, their states and their plans.
+#![tactic(auto)]
+
+mod steps;
+mod task;
+
+pub use steps::{applies, apply_in, embeds, holds, run_plan, start};
+pub use task::{Action, Condition, Task};
+
+#[cfg(test)]
+mod tests;
