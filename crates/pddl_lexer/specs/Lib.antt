@@ -1,0 +1,5 @@
+pub mod Pieces
+pub mod Tokens
+pub mod Brackets
+pub mod Trees
+pub mod Reading
