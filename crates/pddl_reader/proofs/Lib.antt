@@ -1,0 +1,13 @@
+pub mod CutLemmas
+pub mod NameLemmas
+pub mod Cursors
+pub mod Exits
+pub mod Takes
+pub mod UntilClose
+pub mod Atoms
+pub mod Actions
+pub mod Whole
+pub mod Domains
+pub mod Problems
+pub mod Texts
+pub mod Lengths
