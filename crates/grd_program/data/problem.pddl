@@ -1,0 +1,1 @@
+(define (problem p) (:domain fork) (:init (at0)) (:goal (and <HYPOTHESIS>)))

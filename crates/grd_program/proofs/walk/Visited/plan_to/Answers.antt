@@ -1,0 +1,24 @@
+use Rattle.std.proofs.Common.{◌≡◌, ◌<◌, arith, Some}
+use Rattle.std.specs.Prelude.{slice_get}
+use Rattle.grd_program.specs.Walks.{visits}
+use Rattle.grd_program.proofs.WalkStateLemmas.{visit_at}
+use Rattle.grd_program.proofs.WalkPlanLemmas.{way_back}
+use Rattle.grd_program.proofs.walk.Visited.plan_to.Goals as goal
+
+pub loop-at-smaller : goal.loop-at-smaller
+loop-at-smaller g c =
+    let v = visit_at c.self.inside.steps.entries c.loop-at.at c.index-step.result.now c.index-step.ensures in
+    let here : slice_get (visits c.args.self.now) c.loop-at.at ≡ Some v.0 = rw (← c.self.view_is) v.1 in
+    rw (← v.2) (c.requires.ways.1.lower c.loop-at.at v.0 (omega arith) here)
+
+pub loop-at-preserved : goal.loop-at-preserved
+loop-at-preserved g c =
+    let v = visit_at c.self.inside.steps.entries c.loop-at.at c.index-step.result.now c.index-step.ensures in
+    let here : slice_get (visits c.args.self.now) c.loop-at.at ≡ Some v.0 = rw (← c.self.view_is) v.1 in
+    let lower : c.index-step.result.now.parent < c.loop-at.at = rw (← v.2) (c.requires.ways.1.lower c.loop-at.at v.0 (omega arith) here) in
+    record {
+      within = omega arith;
+      rest = λ path ways.
+          way_back path (visits c.args.self.now) c.loop-at.at v.0 c.loop-at.plan.items c.push-in-loop-at.new.self.items _ _ _ ways (omega arith) here v.2 v.3
+          c.in_ok-push-2.ensures.items (c.loop-at.invariant.rest path ways);
+    }

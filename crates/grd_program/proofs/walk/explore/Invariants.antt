@@ -1,0 +1,9 @@
+use Rattle.std.proofs.Common.{◌-◌}
+use Rattle.grd_program.specs.Walks.{visits, IsExpanded}
+use Rattle.grd_program.proofs.walk.explore.Given as goal
+
+abbrev pub invariant-loop-from : goal.invariant-loop-from
+invariant-loop-from g l = IsExpanded l.task l.goal l.limit l.head (visits l.visited)
+
+abbrev pub decreases-loop-from : goal.decreases-loop-from
+decreases-loop-from g l = l.limit - l.head

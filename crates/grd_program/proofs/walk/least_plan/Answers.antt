@@ -1,0 +1,22 @@
+use Rattle.std.proofs.Common.{sym, ◌∙◌, ap, arith, rules}
+use Rattle.strips_model.specs.Plans.{goal_holds}
+use Rattle.grd_program.specs.Walks.{visits, IsExpanded}
+use Rattle.grd_program.proofs.WalkStateLemmas.{length-visits}
+use Rattle.grd_program.proofs.WalkPlanLemmas.{in_range, at_start}
+use Rattle.grd_program.proofs.WalkLemmas.{begins}
+use Rattle.grd_program.proofs.walk.least_plan.Goals as goal
+
+pub returns-then-holds-clause-least : goal.returns-then-holds-clause-least
+returns-then-holds-clause-least c =
+    rw c.new.ensures.items (at_start c.args.task.now c.args.goal (ap (goal_holds c.args.task.now c.args.goal) (sym c.start-first.ensures) ∙ sym c.holds.ensures ∙ c.if-holds.true))
+
+pub explore-requires : goal.explore-requires
+explore-requires c =
+    let expanded : IsExpanded c.args.task.now c.args.goal c.args.limit 0 (visits c.note.new.self) =
+    begins c.args.task.now c.args.goal c.args.limit (visits c.note.new.self) _ (rw c.new-visited.ensures at c.in_ok-note.ensures.noted) c.start-first.ensures
+    (ap (goal_holds c.args.task.now c.args.goal) (sym c.start-first.ensures) ∙ sym c.holds.ensures ∙ c.if-holds.false)
+    (omega (arith, length-visits c.note.new.self, c.in_ok-note.ensures.few)) in
+    (search rules, (search rules, (search rules, (c.requires.goal, expanded))))
+
+pub returns-clause-in_range : goal.returns-clause-in_range
+returns-clause-in_range c = in_range (λ v. v.items) c.args.task.now c.args.goal c.explore.result c.explore.ensures.least

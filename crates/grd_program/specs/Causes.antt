@@ -1,0 +1,36 @@
+-- Why a file was not taken.
+use Rattle.std.specs.Prelude.{◌≡◌, ℕ, ◌^◌, ◌≤◌, Bool, false, List, length, Option, IfSome, IsSomeAnd}
+use Rattle.grd_io.specs.Bytes.{Told}
+use Rattle.grd_io.specs.Causes.{Rose}
+use Rattle.grd_base.specs.declared.roles.FileRole.{FileRole}
+use Rattle.grd_program.specs.declared.status.Status.{Status}
+use Rattle.grd_program.specs.declared.status.Status.TheVariants.{Done, Refused, Usage, Limit, ReadFailed, WriteFailed, OutOfMemory}
+use Rattle.grd_program.specs.declared.status.Refusal.TheVariants.{NotYet}
+
+-- the file is there with at most 2^20 bytes, and its text has the property, where the shelf tells
+abbrev pub HasText : Told → (List ℕ → Type 0) → Type 0
+HasText told P = IfSome told (λ file. IsSomeAnd file (λ text. (length text ≤ 2 ^ 20) × P text))
+
+-- the file is there, and not with at most 2^20 bytes that have the property, where the shelf tells
+abbrev pub LacksText : Told → (List ℕ → Type 0) → Type 0
+LacksText told P = IfSome told (λ file. IsSomeAnd file (λ text. length text ≤ 2 ^ 20 → P text → ⊥))
+
+-- no count of the shelf changed
+abbrev pub IsQuiet : (List ℕ → Bool → ℕ) → (List ℕ → Bool → ℕ) → Type 0
+IsQuiet before now = (name : List ℕ) (writing : Bool) → now name writing ≡ before name writing
+
+-- the count of failed readings of this name rose, and no other count changed
+pub record OnlyRose (before now : List ℕ → Bool → ℕ) (name : List ℕ) : Type 0 where
+  pub rose : Rose (before name false) (now name false)
+  pub others : (x : List ℕ) (w : Bool) → (x ≡ name → w ≡ false → ⊥) → now x w ≡ before x w
+
+-- what a status says of the file that was to be read: that its text lacks the property, where no
+-- count changed, or that its count of failed readings rose
+abbrev pub HasFileCause : FileRole → Told → (List ℕ → Bool → ℕ) → (List ℕ → Bool → ℕ) → List ℕ → (List ℕ → Type 0) → Status → Type 0
+HasFileCause role told before now name P Done = ⊥
+HasFileCause role told before now name P (Refused (NotYet named)) = (named ≡ role) × IsQuiet before now × LacksText told P
+HasFileCause role told before now name P (Usage fault) = ⊥
+HasFileCause role told before now name P (Limit fault) = ⊥
+HasFileCause role told before now name P (ReadFailed named) = (named ≡ role) × OnlyRose before now name
+HasFileCause role told before now name P (WriteFailed target) = ⊥
+HasFileCause role told before now name P OutOfMemory = Unit {0}

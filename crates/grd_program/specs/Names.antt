@@ -1,0 +1,27 @@
+-- What contracts say of lists of names, and of a world by its names.
+use Rattle.std.specs.Prelude.{◌≡◌, ℕ, if◌then◌else◌, List, [], ◌∷◌, ◌++◌, map, filter}
+use Rattle.std.specs.Borrow.{Bor}
+use Rattle.std.specs.Str.{bytes_eq}
+use Rattle.pddl_reader.specs.Values.{PlainDomain}
+use Rattle.strips_model.specs.Worlds.{World, has_atom}
+use Rattle.grd_program.specs.Worlds.{is_fluent}
+
+-- the list with the name at its end, where it is not there
+abbrev pub with_name : List (List ℕ) → List ℕ → List (List ℕ)
+with_name names name = if has_atom bytes_eq names name then names else names ++ name ∷ []
+
+-- the lists have the same names
+abbrev pub HaveSame : List (List ℕ) → List (List ℕ) → Type 0
+HaveSame names others = (name : List ℕ) → has_atom bytes_eq names name ≡ has_atom bytes_eq others name
+
+-- the texts behind the references
+abbrev pub texts_of : List (Bor (List ℕ)) → List (List ℕ)
+texts_of names = map (λ n. n.now) names
+
+-- the predicates that occur in an effect, in order
+abbrev pub fluents_of : PlainDomain → List (List ℕ)
+fluents_of d = filter (is_fluent d) (map (λ q. q.name.text) d.predicates)
+
+-- a world with these fluent atoms and this start
+abbrev pub world_with : List (List ℕ) → List (List ℕ) → World (List ℕ)
+world_with fluents init = record { fluents = fluents; init = init; actions = []; goals = [] }

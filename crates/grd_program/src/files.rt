@@ -1,0 +1,149 @@
+ghost use Rattle.std.specs.Prelude.{◌≡◌, ℕ, ◌^◌, ◌≤◌, List, [], ◌∷◌, length, map, Bool, false, IfOk, IfErr, OnOk, string_bytes};
+ghost use Rattle.pddl_reader.specs.Values.{PlainDomain, PlainProblem};
+ghost use Rattle.pddl_reader.specs.Spelling.{IsFirstForm, IsDomainText, IsProblemText};
+ghost use Rattle.grd_io.specs.Bytes.{IsWholeFile};
+ghost use Rattle.grd_program.specs.GoalLines.{SpellsGoal};
+ghost use Rattle.grd_program.specs.Worlds.{FitsDomain, AreDeclared};
+ghost use Rattle.grd_program.specs.Causes.{HasText, HasFileCause, IsQuiet};
+ghost use Rattle.grd_program.specs.Runs.{SpellsOnly};
+
+use crate::goals::{GoalFault, read_goal};
+use crate::status::{Refusal, Status};
+use crate::world::{are_declared, fits_domain};
+use grd_base::FileRole;
+use grd_io::{ReadFault, Shelf, read_whole};
+use pddl_reader::{Domain, PddlFault, Problem, read_domain, read_problem};
+use std::alloc::Global;
+
+/// The most bytes of an input file.
+const FILE_LIMIT: u64 = 1 << 20;
+
+/// The bytes of an input file. A longer file is of a form that is not read yet.
+fn text_of<F: Shelf>(
+    alloc: Global,
+    shelf: &mut F,
+    role: FileRole,
+    name: &str,
+) -> Result<Vec<u8>, Status>
+    ensures whole { IfOk result (λ text. IsWholeFile (F.told shelf.old name.now) text.items) }
+    ensures short { IfOk result (λ text. length text.items ≤ 2 ^ 20) }
+    ensures cause { IfErr result
+        (HasFileCause role (F.told shelf.old name.now) (F.faults shelf.old) (F.faults shelf.new) name.now (λ text. Unit {0})) }
+    ensures files_stay { (x : List ℕ) → F.told shelf.new x ≡ F.told shelf.old x }
+    ensures later { (x : List ℕ) (w : Bool) → F.faults shelf.old x w ≤ F.faults shelf.new x w }
+    ensures quiet { OnOk result (IsQuiet (F.faults shelf.old) (F.faults shelf.new)) }
+{
+    match read_whole(alloc, shelf, name, FILE_LIMIT) {
+        Ok(text) => Ok(text),
+        Err(ReadFault::Failed) => Err(Status::ReadFailed(role)),
+        Err(ReadFault::TooLong(_)) => Err(Status::Refused(Refusal::NotYet(role))),
+        Err(ReadFault::OutOfMemory) => Err(Status::OutOfMemory),
+    }
+}
+
+/// The domain that a file spells.
+pub(crate) fn domain_of<F: Shelf>(
+    alloc: Global,
+    shelf: &mut F,
+    name: &str,
+) -> Result<Domain, Status>
+    ensures spelled { IfOk result (λ d. HasText (F.told shelf.old name.now) (SpellsOnly IsDomainText d)) }
+    ensures cause { IfErr result
+        (HasFileCause FileRole.Domain (F.told shelf.old name.now)
+        (F.faults shelf.old) (F.faults shelf.new) name.now
+        (λ text. (d : PlainDomain) × IsDomainText text d)) }
+    ensures files_stay { (x : List ℕ) → F.told shelf.new x ≡ F.told shelf.old x }
+    ensures later { (x : List ℕ) (w : Bool) → F.faults shelf.old x w ≤ F.faults shelf.new x w }
+    ensures quiet { OnOk result (IsQuiet (F.faults shelf.old) (F.faults shelf.new)) }
+    ensures form { IfOk result IsFirstForm }
+    ensures few_actions { IfOk result (λ d. length d.actions ≤ 2 ^ 21) }
+{
+    let text = text_of(alloc, shelf, FileRole::Domain, name)?;
+    match read_domain(alloc, &text) {
+        Ok(domain) => Ok(domain),
+        Err(PddlFault::NotYet) => Err(Status::Refused(Refusal::NotYet(FileRole::Domain))),
+        Err(PddlFault::OutOfMemory) => Err(Status::OutOfMemory),
+    }
+}
+
+/// The problem that a file spells, for a domain.
+pub(crate) fn problem_of<F: Shelf>(
+    alloc: Global,
+    shelf: &mut F,
+    name: &str,
+    domain: &Domain,
+) -> Result<Problem, Status>
+    ensures spelled { IfOk result (λ p. HasText (F.told shelf.old name.now) (SpellsOnly IsProblemText p)) }
+    ensures fits { IfOk result (λ p. FitsDomain domain.now p) }
+    ensures cause { IfErr result
+        (HasFileCause FileRole.Problem (F.told shelf.old name.now)
+        (F.faults shelf.old) (F.faults shelf.new) name.now
+        (λ text. (p : PlainProblem) × IsProblemText text p × FitsDomain domain.now p)) }
+    ensures files_stay { (x : List ℕ) → F.told shelf.new x ≡ F.told shelf.old x }
+    ensures later { (x : List ℕ) (w : Bool) → F.faults shelf.old x w ≤ F.faults shelf.new x w }
+    ensures quiet { OnOk result (IsQuiet (F.faults shelf.old) (F.faults shelf.new)) }
+{
+    let text = text_of(alloc, shelf, FileRole::Problem, name)?;
+    match fitting_problem(alloc, &text, domain) {
+        Ok(problem) => Ok(problem),
+        Err(PddlFault::NotYet) => Err(Status::Refused(Refusal::NotYet(FileRole::Problem))),
+        Err(PddlFault::OutOfMemory) => Err(Status::OutOfMemory),
+    }
+}
+
+/// Reads a problem that is for the domain.
+fn fitting_problem(alloc: Global, text: &[u8], domain: &Domain) -> Result<Problem, PddlFault>
+    requires { length text.now ≤ 2 ^ 20 }
+    ensures spelled { IfOk result (λ p. SpellsOnly IsProblemText p text.now) }
+    ensures fits { IfOk result (λ p. FitsDomain domain.now p) }
+    ensures not_yet { result ≡ Err PddlFault.NotYet → (p : PlainProblem) → IsProblemText text.now p →
+        FitsDomain domain.now p → ⊥ }
+{
+    let problem = read_problem(alloc, text)?;
+    match fits_domain(alloc, domain, &problem) {
+        Ok(true) => Ok(problem),
+        Ok(false) => Err(PddlFault::NotYet),
+        Err(_) => Err(PddlFault::OutOfMemory),
+    }
+}
+
+/// The goal that a file spells over a domain, as the predicates of its atoms.
+pub(crate) fn goal_of<F: Shelf>(
+    alloc: Global,
+    shelf: &mut F,
+    name: &str,
+    domain: &Domain,
+) -> Result<Vec<String>, Status>
+    ensures spelled { IfOk result
+        (λ goal. HasText (F.told shelf.old name.now)
+        (SpellsOnly SpellsGoal (map string_bytes goal.items))) }
+    ensures declared { IfOk result (λ goal. AreDeclared domain.now (map string_bytes goal.items)) }
+    ensures cause { IfErr result
+        (HasFileCause FileRole.Goals (F.told shelf.old name.now) (F.faults shelf.old) (F.faults shelf.new) name.now
+        (λ text. (goal : List (List ℕ)) × SpellsGoal text goal × AreDeclared domain.now goal)) }
+    ensures files_stay { (x : List ℕ) → F.told shelf.new x ≡ F.told shelf.old x }
+    ensures later { (x : List ℕ) (w : Bool) → F.faults shelf.old x w ≤ F.faults shelf.new x w }
+    ensures quiet { OnOk result (IsQuiet (F.faults shelf.old) (F.faults shelf.new)) }
+{
+    let text = text_of(alloc, shelf, FileRole::Goals, name)?;
+    match declared_goal(alloc, &text, domain) {
+        Ok(goal) => Ok(goal),
+        Err(GoalFault::NotYet) => Err(Status::Refused(Refusal::NotYet(FileRole::Goals))),
+        Err(GoalFault::OutOfMemory) => Err(Status::OutOfMemory),
+    }
+}
+
+/// Reads a goal whose predicates are those of the domain.
+fn declared_goal(alloc: Global, text: &[u8], domain: &Domain) -> Result<Vec<String>, GoalFault>
+    ensures spelled { IfOk result (λ goal. SpellsOnly SpellsGoal (map string_bytes goal.items) text.now) }
+    ensures declared { IfOk result (λ goal. AreDeclared domain.now (map string_bytes goal.items)) }
+    ensures not_yet { result ≡ Err GoalFault.NotYet → (goal : List (List ℕ)) → SpellsGoal text.now goal →
+        AreDeclared domain.now goal → ⊥ }
+{
+    let goal = read_goal(alloc, text)?;
+    match are_declared(alloc, domain, &goal) {
+        Ok(true) => Ok(goal),
+        Ok(false) => Err(GoalFault::NotYet),
+        Err(_) => Err(GoalFault::OutOfMemory),
+    }
+}

@@ -1,0 +1,291 @@
+ghost use Rattle.std.specs.Prelude.{◌≡◌, true, false, ◌+◌, ◌*◌, ◌<◌, ◌≤◌, [], length, slice_get, All, IfOk, IfSome, IfNone, OnOk};
+ghost use Rattle.std.specs.Option.{option_map};
+ghost use Rattle.grd_base.specs.Bits.{members};
+ghost use Rattle.strips_model.specs.Plans.{step, IsCost, IsOptimal};
+ghost use Rattle.strips_model.specs.Reached.{IsReachedFor, MoreThan};
+ghost use Rattle.grd_program.specs.Walks.{visit_of, visits, HasState, IsNoted, HasWays, IsWayBy, IsExpanded, Expands, LeadsToGoal};
+
+use grd_base::{ActionId, Bits, GoalId, whole};
+use indexmap::IndexMap;
+use std::alloc::{AllocError, AllocFailed, Global};
+use std::marker::Model;
+use strips_model::{Task, applies, apply_in, holds, start};
+use thiserror::Error;
+
+/// Why a walk gave up.
+#[derive(Clone, Copy, Debug, PartialEq, Eq, Error)]
+pub(crate) enum WalkFault {
+    /// More states were reached than may be kept.
+    #[error("too many states")]
+    TooManyStates,
+    #[error("out of memory")]
+    OutOfMemory,
+}
+
+impl From<AllocError> for WalkFault {
+    ghost use Rattle.std.specs.Prelude.{◌≡◌};
+    ghost use Rattle.grd_program.specs.declared.walk.WalkFault.TheVariants.{OutOfMemory};
+
+    ghost from_gives = { λ _ fault. fault ≡ OutOfMemory };
+
+    fn from(_error: AllocError) -> WalkFault {
+        WalkFault::OutOfMemory
+    }
+}
+
+impl<T: Drop> From<AllocFailed<T>> for WalkFault {
+    ghost use Rattle.std.specs.Prelude.{◌≡◌};
+    ghost use Rattle.grd_program.specs.declared.walk.WalkFault.TheVariants.{OutOfMemory};
+
+    ghost from_gives = { λ _ fault. fault ≡ OutOfMemory };
+
+    fn from(_error: AllocFailed<T>) -> WalkFault {
+        WalkFault::OutOfMemory
+    }
+}
+
+/// How a state was first reached.
+#[derive(Clone, Copy, Debug)]
+struct Step {
+    /// The place of the state before it, among the visited states.
+    parent: usize,
+    /// The action between the two.
+    action: ActionId,
+}
+
+/// The visited states, each once, in the order of their visits.
+#[derive(Drop)]
+struct Visited<const W: usize> {
+    steps: IndexMap<Bits<W>, Step>,
+}
+
+impl<const W: usize> Model for Visited<W> {
+    ghost use Rattle.std.specs.Prelude.{List};
+    ghost use Rattle.grd_base.specs.declared.bits.Bits.{Bits};
+    ghost use Rattle.grd_program.specs.declared.walk.Step.{Step};
+    ghost use Rattle.grd_program.specs.Walks.{AreWhole};
+
+    ghost Value = { List (Bits W × Step) };
+
+    ghost view = { λ v. v.steps.entries };
+
+    ghost invariant = { λ v. AreWhole v.steps.entries };
+}
+
+impl<const W: usize> Visited<W> {
+    /// No state.
+    fn new(alloc: Global) -> Visited<W>
+        requires { W ≤ 64 }
+        ensures { result ≡ [] }
+    {
+        Visited {
+            steps: IndexMap::new(alloc),
+        }
+    }
+
+    /// The state at a place.
+    fn state(&self, place: usize) -> Option<Bits<W>>
+        requires { W ≤ 64 }
+        ensures { option_map members result ≡ option_map (λ v. v.state)
+            (slice_get (visits self.now) place) }
+    {
+        let (state, _) = self.steps.get_index(place)?;
+        Some(*state)
+    }
+
+    /// Visits a state, unless it is visited.
+    fn note(&mut self, state: Bits<W>, step: Step, limit: u32) -> Result<(), WalkFault>
+        requires width { W ≤ 64 }
+        requires few { length self.old ≤ limit }
+        ensures noted { OnOk result
+            (IsNoted (visits self.old) (visits self.new) (visit_of (state.entry, step))) }
+        ensures few { OnOk result (length self.new ≤ limit) }
+        ensures many { result ≡ Err WalkFault.TooManyStates → (length self.old ≡ limit) ×
+            (HasState (visits self.old) (members state.entry) → ⊥) }
+    {
+        whole(&state);
+        if self.steps.contains_key(&state) {
+            return Ok(());
+        }
+        if self.steps.len() >= limit as usize {
+            return Err(WalkFault::TooManyStates);
+        }
+        self.steps.insert(state, step)?;
+        Ok(())
+    }
+
+    /// The actions on the way from the first state to the one at a place, and one more.
+    fn plan_to(
+        &self,
+        alloc: Global,
+        place: usize,
+        last: ActionId,
+    ) -> Result<Vec<ActionId>, WalkFault>
+        requires width { W ≤ 64 }
+        requires place { place < length self.now }
+        requires ways { HasWays (visits self.now) }
+        ensures plan { IfOk result (λ plan. IsWayBy (visits self.now) place last plan.items) }
+        ensures many { result ≡ Err WalkFault.TooManyStates → ⊥ }
+    {
+        let mut plan = Vec::new(alloc);
+        plan.push(last)?;
+        let mut at = place;
+        while at > 0 {
+            let step = self.steps[at];
+            plan.push(step.action)?;
+            at = step.parent;
+        }
+        plan.reverse();
+        Ok(plan)
+    }
+}
+
+/// The state after one step, if the action applies.
+fn advance<const W: usize>(task: &Task, s: &Bits<W>, a: ActionId) -> Option<Bits<W>>
+    requires width { W ≤ 64 }
+    requires atoms { task.now.atoms ≤ 64 * W }
+    requires action { a.0 < length task.now.actions }
+    ensures { option_map members result ≡ step task.now (members s.now) a }
+{
+    if !applies(task, s, a) {
+        return None;
+    }
+    let mut next = *s;
+    apply_in(task, &mut next, a);
+    Some(next)
+}
+
+/// Follows an action from the state at the head, and tells whether it leads to the goal. Any other
+/// state that it leads to is visited.
+fn follow<const W: usize>(
+    task: &Task,
+    goal: GoalId,
+    visited: &mut Visited<W>,
+    head: usize,
+    from: &Bits<W>,
+    a: ActionId,
+    limit: u32,
+) -> Result<bool, WalkFault>
+    requires width { W ≤ 64 }
+    requires atoms { task.now.atoms ≤ 64 * W }
+    requires goal { goal.0 < length task.now.goals }
+    requires action { a.0 < length task.now.actions }
+    requires expands { Expands task.now goal limit head a.0 (members from.now) (visits visited.old) }
+    ensures led { result ≡ Ok true → Expands task.now goal limit head a.0 (members from.now)
+        (visits visited.new) × LeadsToGoal task.now goal (members from.now) a }
+    ensures passed { result ≡ Ok false → Expands task.now goal limit head (a.0 + 1) (members from.now)
+        (visits visited.new) }
+    ensures many { result ≡ Err WalkFault.TooManyStates → MoreThan limit
+        (IsReachedFor task.now goal) }
+{
+    let Some(next) = advance(task, from, a) else {
+        return Ok(false);
+    };
+    if holds(task, &next, goal) {
+        return Ok(true);
+    }
+    let step = Step {
+        parent: head,
+        action: a,
+    };
+    visited.note(next, step, limit)?;
+    Ok(false)
+}
+
+/// Follows every action from the state at the head, up to one that leads to the goal.
+fn expand<const W: usize>(
+    task: &Task,
+    goal: GoalId,
+    visited: &mut Visited<W>,
+    head: usize,
+    from: &Bits<W>,
+    limit: u32,
+) -> Result<Option<ActionId>, WalkFault>
+    requires width { W ≤ 64 }
+    requires atoms { task.now.atoms ≤ 64 * W }
+    requires goal { goal.0 < length task.now.goals }
+    requires expands { Expands task.now goal limit head 0 (members from.now) (visits visited.old) }
+    ensures led { IfOk result
+        (λ found. IfSome found
+        (λ a. Expands task.now goal limit head a.0 (members from.now) (visits visited.new) ×
+        LeadsToGoal task.now goal (members from.now) a)) }
+    ensures passed { IfOk result
+        (λ found. IfNone found (IsExpanded task.now goal limit (head + 1) (visits visited.new))) }
+    ensures many { result ≡ Err WalkFault.TooManyStates → MoreThan limit
+        (IsReachedFor task.now goal) }
+{
+    for i in 0..task.actions.len() {
+        let a = ActionId(i as u32);
+        if follow(task, goal, visited, head, from, a, limit)? {
+            return Ok(Some(a));
+        }
+    }
+    Ok(None)
+}
+
+/// Expands the visited states in their order, up to one with a step to the goal.
+fn explore<const W: usize>(
+    alloc: Global,
+    task: &Task,
+    goal: GoalId,
+    mut visited: Visited<W>,
+    limit: u32,
+) -> Result<Option<Vec<ActionId>>, WalkFault>
+    requires width { W ≤ 64 }
+    requires atoms { task.now.atoms ≤ 64 * W }
+    requires goal { goal.0 < length task.now.goals }
+    requires expanded { IsExpanded task.now goal limit 0 (visits visited) }
+    ensures least { IfOk result (λ answer. IfSome answer (λ plan. IsOptimal task.now goal [] plan.items)) }
+    ensures none { IfOk result (λ answer. IfNone answer (IsCost task.now goal [] None)) }
+    ensures many { result ≡ Err WalkFault.TooManyStates → MoreThan limit
+        (IsReachedFor task.now goal) }
+{
+    let mut head = 0;
+    while let Some(from) = visited.state(head) {
+        if let Some(last) = expand(task, goal, &mut visited, head, &from, limit)? {
+            let plan = visited.plan_to(alloc, head, last)?;
+            return Ok(Some(plan));
+        }
+        head += 1;
+    }
+    Ok(None)
+}
+
+/// A task has at most 4,096 atoms.
+fn fits(task: &Task)
+    ensures { task.now.atoms ≤ 64 * 64 }
+{
+    let _atoms = task.atoms;
+}
+
+/// A shortest plan of the goal, or none where there is no plan. It visits the reached states in
+/// layers, and tests each state for the goal when it first meets it.
+pub(crate) fn least_plan(
+    alloc: Global,
+    task: &Task,
+    goal: GoalId,
+    limit: u32,
+) -> Result<Option<Vec<ActionId>>, WalkFault>
+    requires goal { goal.0 < length task.now.goals }
+    requires limit { 1 ≤ limit }
+    ensures least { IfOk result (λ answer. IfSome answer (λ plan. IsOptimal task.now goal [] plan.items)) }
+    ensures none { IfOk result (λ answer. IfNone answer (IsCost task.now goal [] None)) }
+    ensures in_range { IfOk result
+        (λ answer. IfSome answer (λ plan. All (λ a. a.0 < length task.now.actions) plan.items)) }
+    ensures many { result ≡ Err WalkFault.TooManyStates → MoreThan limit
+        (IsReachedFor task.now goal) }
+{
+    fits(task);
+    let first = start::<64>(task);
+    if holds(task, &first, goal) {
+        return Ok(Some(Vec::new(alloc)));
+    }
+    let mut visited = Visited::new(alloc);
+    // No step led to the start.
+    let unread = Step {
+        parent: 0,
+        action: ActionId(0),
+    };
+    visited.note(first, unread, limit)?;
+    explore(alloc, task, goal, visited, limit)
+}

@@ -1,0 +1,1 @@
+(define (problem z) (:domain k) (:init (P)) (:goal (and <hypothesis>)))
