@@ -1,4 +1,5 @@
 pub mod Values
 pub mod Plans
 pub mod Reached
+pub mod Common
 pub mod Worlds

@@ -2,6 +2,8 @@
 use Rattle.std.specs.Prelude.{ℕ, ◌^◌, ◌<◌, ◌≤◌, Bool, List, length}
 use Rattle.std.specs.List.{All}
 use Rattle.grd_base.specs.declared.ids.AtomId.{AtomId}
+use Rattle.grd_base.specs.declared.ids.ActionId.{ActionId}
+use Rattle.grd_base.specs.declared.ids.GoalId.{GoalId}
 use Rattle.grd_base.specs.Rising.{IsRisingBy}
 
 -- a ground action: what it needs, what it makes true and what it makes false;
@@ -44,3 +46,9 @@ pub record IsTask (t : PlainTask) : Type 0 where
   pub goals : All (λ g. AreAtoms t.atoms g.atoms) t.goals
   pub few_actions : length t.actions ≤ 2 ^ 21
   pub few_goals : length t.goals ≤ 32
+
+-- a sequence that is common to two goals, with a plan of each that begins with it
+pub record PlainWitness : Type 0 where
+  pub prefix : List ActionId
+  pub goals : GoalId × GoalId
+  pub plans : List ActionId × List ActionId
