@@ -1,0 +1,43 @@
+use std::alloc::{AllocError, AllocFailed};
+use thiserror::Error;
+
+/// Why a goals file gives no goals. Lines are counted from 1, skipped ones among them.
+#[derive(Clone, Copy, Debug, PartialEq, Eq, Error)]
+pub enum GoalFault {
+    /// The line is no list of atoms.
+    #[error("line {0}: shape")]
+    Shape(u32),
+    /// An atom of the line is none of the domain's.
+    #[error("line {0}: unknown atom")]
+    UnknownAtom(u32),
+    /// Every line is skipped.
+    #[error("no goal")]
+    NoGoal,
+    /// There are so many goals, more than may be.
+    #[error("{0} goals")]
+    TooManyGoals(u32),
+    #[error("out of memory")]
+    OutOfMemory,
+}
+
+impl From<AllocError> for GoalFault {
+    ghost use Rattle.std.specs.Prelude.{◌≡◌};
+    ghost use Rattle.goal_files.specs.declared.faults.GoalFault.TheVariants.{OutOfMemory};
+
+    ghost from_gives = { λ _ fault. fault ≡ OutOfMemory };
+
+    fn from(_error: AllocError) -> GoalFault {
+        GoalFault::OutOfMemory
+    }
+}
+
+impl<T: Drop> From<AllocFailed<T>> for GoalFault {
+    ghost use Rattle.std.specs.Prelude.{◌≡◌};
+    ghost use Rattle.goal_files.specs.declared.faults.GoalFault.TheVariants.{OutOfMemory};
+
+    ghost from_gives = { λ _ fault. fault ≡ OutOfMemory };
+
+    fn from(_error: AllocFailed<T>) -> GoalFault {
+        GoalFault::OutOfMemory
+    }
+}

