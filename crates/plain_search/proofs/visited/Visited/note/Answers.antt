@@ -3,8 +3,8 @@ use Rattle.std.specs.Option.{is_some}
 use Rattle.std.specs.Map.{lookup}
 use Rattle.indexmap.proofs.CallerLemmas.{insert_entry-new}
 use Rattle.grd_base.specs.Bits.{IsWhole}
-use Rattle.grd_program.proofs.WalkStateLemmas.{same_bits, found, absent, none_of, whole_pushed, noted_new}
-use Rattle.grd_program.proofs.walk.Visited.note.Goals as goal
+use Rattle.plain_search.proofs.WalkStateLemmas.{same_bits, found, absent, none_of, whole_pushed, noted_new}
+use Rattle.plain_search.proofs.visited.Visited.note.Goals as goal
 
 pub returns-then-contains_key-clause-noted : goal.returns-then-contains_key-clause-noted
 returns-then-contains_key-clause-noted g c = rw (← c.self.view_is) (inl (found c.self.inside.steps.entries c.args.state (sym c.contains_key.ensures ∙ c.if-contains_key.true), refl))

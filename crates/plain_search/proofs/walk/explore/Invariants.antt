@@ -1,6 +1,6 @@
 use Rattle.std.proofs.Common.{◌-◌}
-use Rattle.grd_program.specs.Walks.{visits, IsExpanded}
-use Rattle.grd_program.proofs.walk.explore.Given as goal
+use Rattle.plain_search.specs.Walks.{visits, IsExpanded}
+use Rattle.plain_search.proofs.walk.explore.Given as goal
 
 abbrev pub invariant-loop-from : goal.invariant-loop-from
 invariant-loop-from g l = IsExpanded l.task l.goal l.limit l.head (visits l.visited)

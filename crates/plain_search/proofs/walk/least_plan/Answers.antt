@@ -1,10 +1,10 @@
 use Rattle.std.proofs.Common.{sym, ◌∙◌, ap, arith, rules}
 use Rattle.strips_model.specs.Plans.{goal_holds}
-use Rattle.grd_program.specs.Walks.{visits, IsExpanded}
-use Rattle.grd_program.proofs.WalkStateLemmas.{length-visits}
-use Rattle.grd_program.proofs.WalkPlanLemmas.{in_range, at_start}
-use Rattle.grd_program.proofs.WalkLemmas.{begins}
-use Rattle.grd_program.proofs.walk.least_plan.Goals as goal
+use Rattle.plain_search.specs.Walks.{visits, IsExpanded}
+use Rattle.plain_search.proofs.WalkStateLemmas.{length-visits}
+use Rattle.plain_search.proofs.WalkPlanLemmas.{in_range, at_start}
+use Rattle.plain_search.proofs.WalkLemmas.{begins}
+use Rattle.plain_search.proofs.walk.least_plan.Goals as goal
 
 pub returns-then-holds-clause-least : goal.returns-then-holds-clause-least
 returns-then-holds-clause-least c =

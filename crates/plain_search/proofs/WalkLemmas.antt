@@ -11,9 +11,9 @@ use Rattle.grd_base.specs.declared.ids.GoalId.{GoalId}
 use Rattle.strips_model.specs.Values.{PlainTask}
 use Rattle.strips_model.specs.Plans.{State, after, step, start_of, goal_holds, IsCost, IsOptimal, IsPlan}
 use Rattle.strips_model.specs.Reached.{IsReachedFor, MoreThan}
-use Rattle.grd_program.specs.Walks.{Visit, HasState, IsNoted, AreWays, HasVisit, IsWalk, Expands, IsExpanded, LeadsToGoal}
-use Rattle.grd_program.proofs.WalkPlaceLemmas.{pushed_cases, pushed_old, pushed_new, old_at, same_at, at_from_Any, Any-from_at, at_of_map}
-use Rattle.grd_program.proofs.WalkPlanLemmas.{some_same, some_and, after_push, after_nothing, no_action, first_step}
+use Rattle.plain_search.specs.Walks.{Visit, HasState, IsNoted, AreWays, HasVisit, IsWalk, Expands, IsExpanded, LeadsToGoal}
+use Rattle.plain_search.proofs.WalkPlaceLemmas.{pushed_cases, pushed_old, pushed_new, old_at, same_at, at_from_Any, Any-from_at, at_of_map}
+use Rattle.plain_search.proofs.WalkPlanLemmas.{some_same, some_and, after_push, after_nothing, no_action, first_step}
 
 -- the paths, with another one from the place n on
 pub grown : (ℕ → List ActionId) → ℕ → List ActionId → ℕ → List ActionId

@@ -6,7 +6,7 @@ use Rattle.grd_base.specs.declared.bits.Bits.{Bits}
 use Rattle.grd_base.specs.Bits.{members, IsWhole}
 use Rattle.strips_model.specs.Values.{PlainTask}
 use Rattle.strips_model.specs.Plans.{State, after, step, start_of, goal_holds}
-use Rattle.grd_program.specs.declared.walk.Step.{Step}
+use Rattle.plain_search.specs.declared.visited.Step.{Step}
 
 -- a visited state, with the place of the state before it and the action between the two
 pub record Visit : Type 0 where
@@ -41,6 +41,10 @@ pub record AreWays (path : ℕ → List ActionId) (vs : List Visit) : Type 0 whe
 -- there are such paths
 abbrev pub HasWays : List Visit → Type 0
 HasWays vs = (path : ℕ → List ActionId) × AreWays path vs
+
+-- the sequence is the path to the visit at the place
+abbrev pub IsWay : List Visit → ℕ → List ActionId → Type 0
+IsWay vs place p = (path : ℕ → List ActionId) → AreWays path vs → p ≡ path place
 
 -- the sequence is the path to the visit at the place, and one more action
 abbrev pub IsWayBy : List Visit → ℕ → ActionId → List ActionId → Type 0

@@ -2,11 +2,11 @@ use Rattle.std.proofs.Common.{◌≡◌, Some, sym, ◌∙◌, ap, arith}
 use Rattle.std.specs.Option.{option_map}
 use Rattle.grd_base.specs.Bits.{members}
 use Rattle.strips_model.specs.Plans.{step}
-use Rattle.grd_program.specs.Walks.{visits}
-use Rattle.grd_program.proofs.WalkStateLemmas.{length-visits}
-use Rattle.grd_program.proofs.WalkPlanLemmas.{passed_on}
-use Rattle.grd_program.proofs.WalkLemmas.{follow_noted, follow_many}
-use Rattle.grd_program.proofs.walk.follow.Goals as goal
+use Rattle.plain_search.specs.Walks.{visits}
+use Rattle.plain_search.proofs.WalkStateLemmas.{length-visits}
+use Rattle.plain_search.proofs.WalkPlanLemmas.{passed_on}
+use Rattle.plain_search.proofs.WalkLemmas.{follow_noted, follow_many}
+use Rattle.plain_search.proofs.walk.follow.Goals as goal
 
 pub returns-in_err-note-clause-many : goal.returns-in_err-note-clause-many
 returns-in_err-note-clause-many g c e =

@@ -1,7 +1,7 @@
 -- Sequences of steps with no action removed.
 use Rattle.std.proofs.Common.{◌≡◌, ℕ, ◌<◌, ◌≤◌, true, cond, List, [], ◌∷◌, ◌++◌, length, reverse, append_assoc, refl, sym, ◌∙◌, ap, inl, inr, arith, Option, Some, None, Result, Ok, Err}
 use Rattle.std.proofs.lemmas.List.{reverse-append}
-use Rattle.grd_program.specs.Walks.{Visit, AreWays}
+use Rattle.plain_search.specs.Walks.{Visit, AreWays}
 use Rattle.std.specs.Prelude.{slice_get, IsSomeAnd, IsErrAnd, IfSome, IfOk, IsTrue, All}
 use Rattle.std.specs.Option.{option_and_then}
 use Rattle.std.proofs.lemmas.Bool.{cases_lt}

@@ -1,9 +1,9 @@
 use Rattle.std.proofs.Common.{◌≡◌, ◌<◌, arith, Some}
 use Rattle.std.specs.Prelude.{slice_get}
-use Rattle.grd_program.specs.Walks.{visits}
-use Rattle.grd_program.proofs.WalkStateLemmas.{visit_at}
-use Rattle.grd_program.proofs.WalkPlanLemmas.{way_back}
-use Rattle.grd_program.proofs.walk.Visited.plan_to.Goals as goal
+use Rattle.plain_search.specs.Walks.{visits}
+use Rattle.plain_search.proofs.WalkStateLemmas.{visit_at}
+use Rattle.plain_search.proofs.WalkPlanLemmas.{way_back}
+use Rattle.plain_search.proofs.visited.Visited.plan_to.Goals as goal
 
 pub loop-at-smaller : goal.loop-at-smaller
 loop-at-smaller g c =

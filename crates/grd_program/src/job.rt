@@ -1,0 +1,31 @@
+use crate::command::Command;
+use grd_base::Limits;
+use std::marker::Model;
+
+/// What the words ask for.
+#[derive(Debug, Drop)]
+pub struct Job {
+    pub command: Command,
+    /// The name of the domain's file.
+    pub domain: String,
+    /// The name of the problem's file.
+    pub problem: String,
+    /// The name of the goals' file.
+    pub goals: String,
+    pub limits: Limits,
+}
+
+impl Model for Job {
+    ghost use Rattle.std.specs.Prelude.{string_bytes};
+    ghost use Rattle.grd_program.specs.Commands.{PlainJob};
+
+    ghost Value = { PlainJob };
+
+    ghost view = { λ j. record {
+      command = j.command;
+      domain = string_bytes j.domain;
+      problem = string_bytes j.problem;
+      goals = string_bytes j.goals;
+      limits = j.limits;
+    } };
+}

@@ -1,0 +1,4 @@
+pub mod WalkPlaceLemmas
+pub mod WalkStateLemmas
+pub mod WalkPlanLemmas
+pub mod WalkLemmas
