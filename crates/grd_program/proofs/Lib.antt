@@ -1,16 +1,6 @@
-pub mod Lists
 pub mod ReportLemmas
 pub mod FileLemmas
 pub mod CompleteLemmas
-pub mod GoalCuts
-pub mod GoalMarks
-pub mod GoalAtoms
-pub mod GoalSteps
-pub mod GoalTexts
-pub mod WalkPlaceLemmas
-pub mod WalkStateLemmas
-pub mod WalkPlanLemmas
-pub mod WalkLemmas
 pub mod NameLemmas
 pub mod AtomLemmas
 pub mod WorldLemmas

@@ -198,4 +198,4 @@ IsUsageFault words (Missing name) =
     AreItemsWith words (λ command items. IsFirstWith (required_of command) (NotGiven items) name)
 IsUsageFault words (BadNumber name) =
     AreItemsWith words (λ command items. All (IsGiven items) (required_of command)
-      × IsFirstWith (options_of command) (GivesNoNumber items) name)
+    × IsFirstWith (options_of command) (GivesNoNumber items) name)

@@ -1,14 +1,19 @@
 -- The line that each status but Done writes to the error stream.
-use Rattle.std.specs.Prelude.{ℕ, ◌+◌, List, [], ◌++◌, codes}
+use Rattle.std.specs.Prelude.{◌≡◌, ℕ, ◌+◌, List, [], ◌++◌, codes}
 use Rattle.std.specs.Fmt.{decimal}
 use Rattle.grd_base.specs.declared.roles.FileRole.{FileRole}
 use Rattle.grd_base.specs.declared.roles.FileRole.TheVariants.{Domain, Problem, Goals, Observations, Certificate}
+use Rattle.goal_files.specs.declared.faults.GoalFault.{GoalFault}
+use Rattle.goal_files.specs.declared.faults.GoalFault.TheVariants.{Shape, UnknownAtom, NoGoal, TooManyGoals, OutOfMemory as GoalsOutOfMemory}
 use Rattle.grd_program.specs.declared.status.Status.{Status}
 use Rattle.grd_program.specs.declared.status.Status.TheVariants.{Done, Refused, Usage, Limit, ReadFailed, WriteFailed, OutOfMemory}
-use Rattle.grd_program.specs.declared.status.Refusal.TheVariants.{NotYet}
-use Rattle.grd_program.specs.declared.status.UsageFault.TheVariants.{NotYet as WordsNotYet}
+use Rattle.grd_program.specs.declared.status.Refusal.{Refusal}
+use Rattle.grd_program.specs.declared.status.Refusal.TheVariants.{NotYet, TooLong, Goals as OfGoals}
+use Rattle.grd_program.specs.declared.status.UsageFault.{UsageFault}
+use Rattle.grd_program.specs.declared.status.UsageFault.TheVariants.{NoCommand, UnknownCommand, BadItem, Repeated, Missing, BadNumber}
 use Rattle.grd_program.specs.declared.status.LimitFault.TheVariants.{States}
 use Rattle.grd_program.specs.declared.status.Target.TheVariants.{Output}
+use Rattle.grd_program.specs.Commands.{flag_of}
 
 abbrev pub role_text : FileRole → List ℕ
 role_text Domain = codes "domain"
@@ -17,13 +22,46 @@ role_text Goals = codes "goals"
 role_text Observations = codes "observations"
 role_text Certificate = codes "certificate"
 
+-- what is said of the words; a word is named by its place behind the program's name, from 1
+abbrev pub usage_text : UsageFault → List ℕ
+usage_text NoCommand = codes "no command"
+usage_text UnknownCommand = codes "unknown command"
+usage_text (BadItem place) = codes "word " ++ decimal place
+usage_text (Repeated place) = codes "repeated word " ++ decimal place
+usage_text (Missing name) = codes "missing " ++ flag_of name
+usage_text (BadNumber name) = codes "number " ++ flag_of name
+
+-- what is said of a goals file; lines are counted from 1
+abbrev pub goals_text : GoalFault → List ℕ
+goals_text (Shape line) = codes "line " ++ decimal line ++ codes ": shape"
+goals_text (UnknownAtom line) = codes "line " ++ decimal line ++ codes ": unknown atom"
+goals_text NoGoal = codes "no goal"
+goals_text (TooManyGoals goals) = decimal goals ++ codes " goals, limit 32"
+goals_text GoalsOutOfMemory = []
+
+-- what is said of a file that is refused
+abbrev pub refusal_text : Refusal → List ℕ
+refusal_text (NotYet role) = role_text role ++ codes ": not yet read"
+refusal_text (TooLong role limit) = role_text role ++ codes ": longer than " ++ decimal limit ++ codes " bytes"
+refusal_text (OfGoals fault) = codes "goals: " ++ goals_text fault
+
 -- goals are counted from 1 in the text
 abbrev pub error_text : Status → List ℕ
 error_text Done = []
-error_text (Refused (NotYet role)) = codes "grd: " ++ role_text role ++ codes ": not yet read\n"
-error_text (Usage WordsNotYet) = codes "grd: usage: not yet read\n"
+error_text (Refused refusal) = codes "grd: " ++ refusal_text refusal ++ codes "\n"
+error_text (Usage fault) = codes "grd: usage: " ++ usage_text fault ++ codes "\n"
 error_text (Limit (States goal states)) =
     codes "grd: limit: more than " ++ decimal states ++ codes " states near goal " ++ decimal (goal.0 + 1) ++ codes "\n"
 error_text (ReadFailed role) = codes "grd: " ++ role_text role ++ codes ": read failed\n"
 error_text (WriteFailed Output) = codes "grd: output: write failed\n"
 error_text OutOfMemory = codes "grd: out of memory\n"
+
+-- no want of memory stands inside a refusal
+abbrev pub IsPlainRefusal : Refusal → Type 0
+IsPlainRefusal (NotYet role) = Unit {0}
+IsPlainRefusal (TooLong role limit) = Unit {0}
+IsPlainRefusal (OfGoals fault) = fault ≡ GoalsOutOfMemory → ⊥
+
+abbrev pub IsPlainStatus : Status → Type 0
+IsPlainStatus (Refused refusal) = IsPlainRefusal refusal
+IsPlainStatus status = Unit {0}

@@ -1,11 +1,8 @@
 pub mod Statuses
 pub mod Errors
 pub mod Commands
-pub mod GoalLines
-pub mod GoalReading
 pub mod Worlds
 pub mod Names
 pub mod Reports
 pub mod Causes
 pub mod Runs
-pub mod Walks

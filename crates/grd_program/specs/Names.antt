@@ -1,8 +1,9 @@
 -- What contracts say of lists of names, and of a world by its names.
-use Rattle.std.specs.Prelude.{◌≡◌, ℕ, if◌then◌else◌, List, [], ◌∷◌, ◌++◌, map, filter}
+use Rattle.std.specs.Prelude.{◌≡◌, ℕ, ◌<◌, All, if◌then◌else◌, List, [], ◌∷◌, ◌++◌, map, filter}
 use Rattle.std.specs.Borrow.{Bor}
 use Rattle.std.specs.Str.{bytes_eq}
 use Rattle.pddl_reader.specs.Values.{PlainDomain}
+use Rattle.strips_model.specs.Values.{PlainWitness}
 use Rattle.strips_model.specs.Worlds.{World, has_atom}
 use Rattle.grd_program.specs.Worlds.{is_fluent}
 
@@ -25,3 +26,9 @@ fluents_of d = filter (is_fluent d) (map (λ q. q.name.text) d.predicates)
 -- a world with these fluent atoms and this start
 abbrev pub world_with : List (List ℕ) → List (List ℕ) → World (List ℕ)
 world_with fluents init = record { fluents = fluents; init = init; actions = []; goals = [] }
+
+-- the witness has actions below this number alone
+pub record IsOver (actions : ℕ) (w : PlainWitness) : Type 0 where
+  pub prefix : All (λ a. a.0 < actions) w.prefix
+  pub first : All (λ a. a.0 < actions) w.plans.0
+  pub second : All (λ a. a.0 < actions) w.plans.1

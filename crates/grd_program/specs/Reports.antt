@@ -1,13 +1,14 @@
--- The report of costs and plans.
+-- The report of costs, and of how long two goals can't be told apart.
 use Rattle.std.specs.Prelude.{◌≡◌, ℕ, ◌+◌, map, List, [], ◌∷◌, ◌++◌, length, codes, Option, Some, None, slice_get, unwrap_or}
 use Rattle.std.specs.List.{flat_map}
 use Rattle.std.specs.Fmt.{decimal}
 use Rattle.grd_base.specs.declared.ids.ActionId.{ActionId}
-use Rattle.grd_base.specs.declared.ids.GoalId.{GoalId}
 use Rattle.pddl_reader.specs.Values.{PlainDomain, PlainProblem}
 use Rattle.grd_program.specs.Worlds.{spelled_task}
-use Rattle.strips_model.specs.Values.{PlainTask}
-use Rattle.strips_model.specs.Plans.{IsCost, IsOptimal}
+use Rattle.grd_program.specs.declared.command.Command.{Command}
+use Rattle.grd_program.specs.declared.command.Command.TheVariants.{Cost, Wcd}
+use Rattle.strips_model.specs.Values.{PlainTask, PlainWitness}
+use Rattle.strips_model.specs.Common.{AreRight, IsRightWcd}
 
 -- an action without objects is printed as its name in brackets
 abbrev pub ground_name : List ℕ → List ℕ
@@ -34,17 +35,44 @@ abbrev pub cost_lines : List (List ℕ) → ℕ → List (Option (List ActionId)
 cost_lines names goal [] = []
 cost_lines names goal (found ∷ rest) = cost_line names goal found ++ cost_lines names (goal + 1) rest
 
--- the whole report, over the names of the actions
+-- the report of the costs, over the names of the actions
 abbrev pub cost_report : List (List ℕ) → List (Option (List ActionId)) → List ℕ
 cost_report names answers = codes "goals " ++ decimal (length answers) ++ codes "\n" ++ cost_lines names 1 answers
 
--- what was found for a goal is right: an optimal plan, or none where there is no plan
-abbrev pub IsRight : PlainTask → GoalId → Option (List ActionId) → Type 0
-IsRight t g None = IsCost t g [] None
-IsRight t g (Some plan) = IsOptimal t g [] plan
+-- the line of a plan of the goal with this number, counted from 1
+abbrev pub plan_line : List (List ℕ) → ℕ → List ActionId → List ℕ
+plan_line names goal plan = codes "plan " ++ decimal goal ++ plan_text names plan ++ codes "\n"
 
--- the text is the report of the one goal of this world
-pub record IsReportOn (d : PlainDomain) (p : PlainProblem) (goal : List (List ℕ)) (text : List ℕ) : Type 0 where
-  pub found : Option (List ActionId)
-  pub right : IsRight (spelled_task d p (goal ∷ [])) (record { 0 = 0 }) found
-  pub whole : text ≡ cost_report (map (λ a. a.name.text) d.actions) (found ∷ [])
+-- the length of the sequence and its two goals, which count from 1; the sequence; the two plans
+abbrev pub witness_lines : List (List ℕ) → PlainWitness → List ℕ
+witness_lines names w =
+    codes "wcd " ++ decimal (length w.prefix)
+    ++ codes " goals " ++ decimal (w.goals.0.0 + 1) ++ codes " " ++ decimal (w.goals.1.0 + 1) ++ codes "\n"
+    ++ codes "prefix" ++ plan_text names w.prefix ++ codes "\n"
+    ++ plan_line names (w.goals.0.0 + 1) w.plans.0
+    ++ plan_line names (w.goals.1.0 + 1) w.plans.1
+
+abbrev pub wcd_lines : List (List ℕ) → Option PlainWitness → List ℕ
+wcd_lines names None = codes "wcd none\n"
+wcd_lines names (Some w) = witness_lines names w
+
+-- the report of the costs and the wcd
+abbrev pub wcd_report : List (List ℕ) → List (Option (List ActionId)) → Option PlainWitness → List ℕ
+wcd_report names answers wcd = cost_report names answers ++ wcd_lines names wcd
+
+-- the names of the domain's actions, by their numbers
+abbrev pub action_names : PlainDomain → List (List ℕ)
+action_names d = map (λ a. a.name.text) d.actions
+
+-- the text is the report of the costs that were found and of a right wcd
+abbrev pub IsWcdReport : PlainTask → List (List ℕ) → List (Option (List ActionId)) → List ℕ → Type 0
+IsWcdReport t names found text = (wcd : Option PlainWitness) × IsRightWcd t [] wcd × (text ≡ wcd_report names found wcd)
+
+-- the text is the command's report of what is right for the goals of this world
+abbrev pub IsReportOn : Command → PlainDomain → PlainProblem → List (List (List ℕ)) → List ℕ → Type 0
+IsReportOn Cost d p goals text =
+    (found : List (Option (List ActionId))) × AreRight (spelled_task d p goals) [] found
+    × (text ≡ cost_report (action_names d) found)
+IsReportOn Wcd d p goals text =
+    (found : List (Option (List ActionId))) × AreRight (spelled_task d p goals) [] found
+    × IsWcdReport (spelled_task d p goals) (action_names d) found text

@@ -1,6 +1,6 @@
--- The world that a domain, a problem and a goal spell. Without parameters a ground atom and a
+-- The world that a domain, a problem and goals spell. Without parameters a ground atom and a
 -- ground action are their names.
-use Rattle.std.specs.Prelude.{◌≡◌, ℕ, Bool, not, List, map, filter, All, Any}
+use Rattle.std.specs.Prelude.{◌≡◌, ℕ, Bool, not, List, map, filter, All}
 use Rattle.std.specs.List.{list_any}
 use Rattle.std.specs.Str.{bytes_eq}
 use Rattle.pddl_reader.specs.Values.{PlainLiteral, PlainSchema, PlainDomain, PlainProblem}
@@ -46,7 +46,3 @@ spelled_task d p goals = task_of bytes_eq (world_of d p goals)
 pub record FitsDomain (d : PlainDomain) (p : PlainProblem) : Type 0 where
   pub same_name : p.domain.text ≡ d.name.text
   pub declared : All (IsDeclared d) p.init
-
--- each name is a predicate of the domain
-abbrev pub AreDeclared : PlainDomain → List (List ℕ) → Type 0
-AreDeclared d names = All (λ name. Any (λ q. q.name.text ≡ name) d.predicates) names

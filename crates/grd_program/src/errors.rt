@@ -1,8 +1,9 @@
 ghost use Rattle.std.specs.Prelude.{◌≡◌, ◌++◌, IfOk, OnOk, string_bytes, codes};
 ghost use Rattle.std.specs.Fmt.{decimal};
-ghost use Rattle.grd_program.specs.Errors.{role_text, error_text};
+ghost use Rattle.grd_program.specs.Errors.{role_text, usage_text, goals_text, refusal_text, error_text, IsPlainRefusal, IsPlainStatus};
 
 use crate::status::{LimitFault, Refusal, Status, Target, UsageFault};
+use goal_files::GoalFault;
 use grd_base::{FileRole, OutOfMemory};
 use std::alloc::Global;
 use std::fmt::Write;
@@ -15,32 +16,126 @@ pub(crate) const OUTPUT_FAILED: &[u8] = b"grd: output: write failed\n";
 
 /// The line that a status writes to the error stream, with its line feed. It is empty for Done.
 pub fn error_line(alloc: Global, status: &Status) -> Result<Vec<u8>, OutOfMemory>
+    requires { IsPlainStatus status.now }
     ensures { IfOk result (λ line. line.items ≡ error_text status.now) }
 {
     let mut line = String::new(alloc);
     match status {
         Status::Done => {}
-        Status::Refused(Refusal::NotYet(role)) => push_role(&mut line, role, ": not yet read\n")?,
-        Status::Usage(UsageFault::NotYet) => line.push_str("grd: usage: not yet read\n")?,
+        Status::Refused(refusal) => push_refusal(&mut line, refusal)?,
+        Status::Usage(fault) => push_usage(&mut line, fault)?,
         Status::Limit(LimitFault::States(goal, states)) => {
             push_limit(&mut line, u64::from(goal.0) + 1, *states)?;
         }
-        Status::ReadFailed(role) => push_role(&mut line, role, ": read failed\n")?,
+        Status::ReadFailed(role) => push_read_failed(&mut line, role)?,
         Status::WriteFailed(Target::Output) => return Ok(Vec::from_slice(alloc, OUTPUT_FAILED)?),
         Status::OutOfMemory => return Ok(Vec::from_slice(alloc, OUT_OF_MEMORY)?),
     }
     Ok(line.into_bytes())
 }
 
-/// Writes what happened to a file.
-fn push_role(line: &mut String, role: &FileRole, what: &str) -> Result<(), OutOfMemory>
+/// Writes the line of a refused file.
+fn push_refusal(line: &mut String, refusal: &Refusal) -> Result<(), OutOfMemory>
+    requires { IsPlainRefusal refusal.now }
     ensures { OnOk result
         (string_bytes line.new ≡ string_bytes line.old ++
-        (codes "grd: " ++ role_text role.now ++ what.now)) }
+        (codes "grd: " ++ refusal_text refusal.now ++ codes "\n")) }
+{
+    line.push_str("grd: ")?;
+    match refusal {
+        Refusal::NotYet(role) => push_not_yet(line, role)?,
+        Refusal::TooLong(role, limit) => push_too_long(line, role, *limit)?,
+        Refusal::Goals(fault) => push_goals(line, fault)?,
+    }
+    line.push_str("\n")?;
+    Ok(())
+}
+
+/// Writes that a file is of a form that is not read yet.
+fn push_not_yet(line: &mut String, role: &FileRole) -> Result<(), OutOfMemory>
+    ensures { OnOk result
+        (string_bytes line.new ≡ string_bytes line.old ++
+        (role_text role.now ++ codes ": not yet read")) }
+{
+    line.push_str(name_of(role))?;
+    line.push_str(": not yet read")?;
+    Ok(())
+}
+
+/// Writes that a file is too long.
+fn push_too_long(line: &mut String, role: &FileRole, limit: u64) -> Result<(), OutOfMemory>
+    ensures { OnOk result
+        (string_bytes line.new ≡ string_bytes line.old ++
+        (role_text role.now ++ codes ": longer than " ++ decimal limit ++ codes " bytes")) }
+{
+    line.push_str(name_of(role))?;
+    write!(line, ": longer than {limit} bytes")?;
+    Ok(())
+}
+
+/// Writes what is at fault in a goals file.
+fn push_goals(line: &mut String, fault: &GoalFault) -> Result<(), OutOfMemory>
+    requires { IsPlainRefusal (Refusal.Goals fault.now) }
+    ensures { OnOk result
+        (string_bytes line.new ≡ string_bytes line.old ++ (codes "goals: " ++ goals_text fault.now)) }
+{
+    match fault {
+        GoalFault::Shape(number) => write!(line, "goals: line {number}: shape")?,
+        GoalFault::UnknownAtom(number) => write!(line, "goals: line {number}: unknown atom")?,
+        GoalFault::NoGoal => line.push_str("goals: no goal")?,
+        GoalFault::TooManyGoals(number) => write!(line, "goals: {number} goals, limit 32")?,
+        GoalFault::OutOfMemory => {}
+    }
+    Ok(())
+}
+
+/// Writes the line of faulty words.
+fn push_usage(line: &mut String, fault: &UsageFault) -> Result<(), OutOfMemory>
+    ensures { OnOk result
+        (string_bytes line.new ≡ string_bytes line.old ++
+        (codes "grd: usage: " ++ usage_text fault.now ++ codes "\n")) }
+{
+    line.push_str("grd: usage: ")?;
+    push_fault(line, fault)?;
+    line.push_str("\n")?;
+    Ok(())
+}
+
+/// Writes what is at fault in the words.
+fn push_fault(line: &mut String, fault: &UsageFault) -> Result<(), OutOfMemory>
+    ensures { OnOk result
+        (string_bytes line.new ≡ string_bytes line.old ++ usage_text fault.now) }
+{
+    match fault {
+        UsageFault::NoCommand => line.push_str("no command")?,
+        UsageFault::UnknownCommand => line.push_str("unknown command")?,
+        UsageFault::BadItem(place) => write!(line, "word {place}")?,
+        UsageFault::Repeated(place) => write!(line, "repeated word {place}")?,
+        UsageFault::Missing(name) => push_option(line, "missing --", name.name())?,
+        UsageFault::BadNumber(name) => push_option(line, "number --", name.name())?,
+    }
+    Ok(())
+}
+
+/// Writes what is said of an option.
+fn push_option(line: &mut String, what: &str, name: &str) -> Result<(), OutOfMemory>
+    ensures { OnOk result
+        (string_bytes line.new ≡ string_bytes line.old ++ (what.now ++ name.now)) }
+{
+    line.push_str(what)?;
+    line.push_str(name)?;
+    Ok(())
+}
+
+/// Writes that a file could not be read.
+fn push_read_failed(line: &mut String, role: &FileRole) -> Result<(), OutOfMemory>
+    ensures { OnOk result
+        (string_bytes line.new ≡ string_bytes line.old ++
+        (codes "grd: " ++ role_text role.now ++ codes ": read failed\n")) }
 {
     line.push_str("grd: ")?;
     line.push_str(name_of(role))?;
-    line.push_str(what)?;
+    line.push_str(": read failed\n")?;
     Ok(())
 }
 

@@ -2,14 +2,13 @@ ghost use Rattle.std.specs.Prelude.{◌≡◌, ℕ, ◌^◌, ◌≤◌, List, []
 ghost use Rattle.pddl_reader.specs.Values.{PlainDomain, PlainProblem};
 ghost use Rattle.pddl_reader.specs.Spelling.{IsFirstForm, IsDomainText, IsProblemText};
 ghost use Rattle.grd_io.specs.Bytes.{IsWholeFile};
-ghost use Rattle.grd_program.specs.GoalLines.{SpellsGoal};
-ghost use Rattle.grd_program.specs.Worlds.{FitsDomain, AreDeclared};
-ghost use Rattle.grd_program.specs.Causes.{HasText, HasFileCause, IsQuiet};
+ghost use Rattle.grd_program.specs.Worlds.{FitsDomain};
+ghost use Rattle.grd_program.specs.Causes.{HasText, HasFileCause, HasGoalsCause, SpellsOnlyGoals, IsQuiet};
 ghost use Rattle.grd_program.specs.Runs.{SpellsOnly};
 
-use crate::goals::{GoalFault, read_goal};
 use crate::status::{Refusal, Status};
-use crate::world::{are_declared, fits_domain};
+use crate::world::fits_domain;
+use goal_files::{Goal, GoalFault, read_goals};
 use grd_base::FileRole;
 use grd_io::{ReadFault, Shelf, read_whole};
 use pddl_reader::{Domain, PddlFault, Problem, read_domain, read_problem};
@@ -18,7 +17,7 @@ use std::alloc::Global;
 /// The most bytes of an input file.
 const FILE_LIMIT: u64 = 1 << 20;
 
-/// The bytes of an input file. A longer file is of a form that is not read yet.
+/// The bytes of a domain or a problem. A longer file is of a form that is not read yet.
 fn text_of<F: Shelf>(
     alloc: Global,
     shelf: &mut F,
@@ -107,43 +106,34 @@ fn fitting_problem(alloc: Global, text: &[u8], domain: &Domain) -> Result<Proble
     }
 }
 
-/// The goal that a file spells over a domain, as the predicates of its atoms.
-pub(crate) fn goal_of<F: Shelf>(
+/// The goals that a file spells over a domain.
+pub(crate) fn goals_of<F: Shelf>(
     alloc: Global,
     shelf: &mut F,
     name: &str,
     domain: &Domain,
-) -> Result<Vec<String>, Status>
+) -> Result<Vec<Goal>, Status>
     ensures spelled { IfOk result
-        (λ goal. HasText (F.told shelf.old name.now)
-        (SpellsOnly SpellsGoal (map string_bytes goal.items))) }
-    ensures declared { IfOk result (λ goal. AreDeclared domain.now (map string_bytes goal.items)) }
+        (λ goals. HasText (F.told shelf.old name.now)
+        (λ text. SpellsOnlyGoals domain.now text goals.items)) }
+    ensures few { IfOk result (λ goals. length goals.items ≤ 32) }
     ensures cause { IfErr result
-        (HasFileCause FileRole.Goals (F.told shelf.old name.now) (F.faults shelf.old) (F.faults shelf.new) name.now
-        (λ text. (goal : List (List ℕ)) × SpellsGoal text goal × AreDeclared domain.now goal)) }
+        (HasGoalsCause (F.told shelf.old name.now) (F.faults shelf.old) (F.faults shelf.new) name.now domain.now) }
     ensures files_stay { (x : List ℕ) → F.told shelf.new x ≡ F.told shelf.old x }
     ensures later { (x : List ℕ) (w : Bool) → F.faults shelf.old x w ≤ F.faults shelf.new x w }
     ensures quiet { OnOk result (IsQuiet (F.faults shelf.old) (F.faults shelf.new)) }
 {
-    let text = text_of(alloc, shelf, FileRole::Goals, name)?;
-    match declared_goal(alloc, &text, domain) {
-        Ok(goal) => Ok(goal),
-        Err(GoalFault::NotYet) => Err(Status::Refused(Refusal::NotYet(FileRole::Goals))),
+    let text = match read_whole(alloc, shelf, name, FILE_LIMIT) {
+        Ok(text) => text,
+        Err(ReadFault::Failed) => return Err(Status::ReadFailed(FileRole::Goals)),
+        Err(ReadFault::TooLong(limit)) => {
+            return Err(Status::Refused(Refusal::TooLong(FileRole::Goals, limit)));
+        }
+        Err(ReadFault::OutOfMemory) => return Err(Status::OutOfMemory),
+    };
+    match read_goals(alloc, domain, &text) {
+        Ok(goals) => Ok(goals),
         Err(GoalFault::OutOfMemory) => Err(Status::OutOfMemory),
-    }
-}
-
-/// Reads a goal whose predicates are those of the domain.
-fn declared_goal(alloc: Global, text: &[u8], domain: &Domain) -> Result<Vec<String>, GoalFault>
-    ensures spelled { IfOk result (λ goal. SpellsOnly SpellsGoal (map string_bytes goal.items) text.now) }
-    ensures declared { IfOk result (λ goal. AreDeclared domain.now (map string_bytes goal.items)) }
-    ensures not_yet { result ≡ Err GoalFault.NotYet → (goal : List (List ℕ)) → SpellsGoal text.now goal →
-        AreDeclared domain.now goal → ⊥ }
-{
-    let goal = read_goal(alloc, text)?;
-    match are_declared(alloc, domain, &goal) {
-        Ok(true) => Ok(goal),
-        Ok(false) => Err(GoalFault::NotYet),
-        Err(_) => Err(GoalFault::OutOfMemory),
+        Err(fault) => Err(Status::Refused(Refusal::Goals(fault))),
     }
 }

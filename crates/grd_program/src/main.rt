@@ -1,17 +1,15 @@
-// The program `grd`: the costs of goals in planning tasks.
+// The program `grd`: the costs of goals in planning tasks, and how long goals can be hidden.
 #![tactic(auto)]
 
-mod cost;
+mod answer;
+mod command;
 mod errors;
 mod files;
-mod goals;
+mod job;
 mod names;
 mod report;
 mod run;
 mod status;
-#[cfg(test)]
-mod tests;
-mod walk;
 mod words;
 mod world;
 

@@ -1,7 +1,8 @@
 ghost use Rattle.std.specs.Prelude.{◌≡◌, ◌⊎◌, ℕ, List, Bool, map, string_bytes};
+ghost use Rattle.grd_program.specs.Errors.{IsPlainStatus};
 ghost use Rattle.grd_program.specs.Runs.{HasWritten, HasWarned, HasCause, IsComplete, GrowsBy, MayBecome};
 
-use crate::cost::cost;
+use crate::answer::answer;
 use crate::errors::{OUT_OF_MEMORY, OUTPUT_FAILED, error_line};
 use crate::status::{Status, Target};
 use grd_base::OutOfMemory;
@@ -27,12 +28,12 @@ pub fn run<F: Shelf, O: Sink, E: Sink>(
         (map string_bytes words.now) (O.faults out.old) (O.faults out.new) result }
     ensures files_stay { (x : List ℕ) → F.told shelf.new x ≡ F.told shelf.old x }
 {
-    let status = print_cost(alloc, words, shelf, out);
+    let status = print_answer(alloc, words, shelf, out);
     warn(alloc, status, err)
 }
 
 /// Makes the whole report, and then writes it.
-fn print_cost<F: Shelf, O: Sink>(
+fn print_answer<F: Shelf, O: Sink>(
     alloc: Global,
     words: &[String],
     shelf: &mut F,
@@ -42,9 +43,10 @@ fn print_cost<F: Shelf, O: Sink>(
         (O.written out.new) result }
     ensures cause { HasCause (F.told shelf.old) (F.faults shelf.old) (F.faults shelf.new)
         (map string_bytes words.now) (O.faults out.old) (O.faults out.new) result }
+    ensures plain { IsPlainStatus result }
     ensures files_stay { (x : List ℕ) → F.told shelf.new x ≡ F.told shelf.old x }
 {
-    let report = match cost(alloc, words, shelf) {
+    let report = match answer(alloc, words, shelf) {
         Ok(report) => report,
         Err(status) => return status,
     };
@@ -56,6 +58,7 @@ fn print_cost<F: Shelf, O: Sink>(
 
 /// Writes the line of a status. Where the line can't be made for want of memory, the status is that.
 fn warn<E: Sink>(alloc: Global, status: Status, err: &mut E) -> Status
+    requires { IsPlainStatus status }
     ensures kept { MayBecome status result }
     ensures warned { HasWarned (E.written err.old) (E.written err.new) (E.faults err.old)
         (E.faults err.new) result }
@@ -76,6 +79,7 @@ fn warn<E: Sink>(alloc: Global, status: Status, err: &mut E) -> Status
 
 /// Writes the line of a status that takes memory.
 fn warn_of<E: Sink>(alloc: Global, status: Status, err: &mut E) -> Status
+    requires { IsPlainStatus status }
     ensures kept { (result ≡ status) ⊎ (result ≡ Status.OutOfMemory) }
     ensures warned { HasWarned (E.written err.old) (E.written err.new) (E.faults err.old)
         (E.faults err.new) result }

@@ -1,4 +1,6 @@
-use grd_base::{FileRole, GoalId};
+use crate::command::OptionName;
+use goal_files::GoalFault;
+use grd_base::{FileRole, GoalId, OutOfMemory};
 
 /// How a run ended.
 #[derive(Clone, Copy, Debug, PartialEq, Eq)]
@@ -23,13 +25,27 @@ pub enum Status {
 pub enum Refusal {
     /// The file is of a form that is not read yet.
     NotYet(FileRole),
+    /// The file has more than so many bytes.
+    TooLong(FileRole, u64),
+    /// The goals file gives no goals. The fault is never want of memory.
+    Goals(GoalFault),
 }
 
-/// Why words are refused.
+/// Why words are refused. A number is the place of a word behind the program's name, from 1.
 #[derive(Clone, Copy, Debug, PartialEq, Eq)]
 pub enum UsageFault {
-    /// The words are of a form that is not read yet.
-    NotYet,
+    /// There is no word.
+    NoCommand,
+    /// The first word is no command.
+    UnknownCommand,
+    /// The word is no item of the command, or no value.
+    BadItem(u64),
+    /// The word begins an item whose option is given before.
+    Repeated(u64),
+    /// An option that the command must have is not given.
+    Missing(OptionName),
+    /// What an option is given is no number of its range.
+    BadNumber(OptionName),
 }
 
 /// Which limit a search met.
@@ -62,5 +78,16 @@ impl Status {
             Status::WriteFailed(_) => 6,
             Status::OutOfMemory => 7,
         }
+    }
+}
+
+impl From<OutOfMemory> for Status {
+    ghost use Rattle.std.specs.Prelude.{◌≡◌};
+    ghost use Rattle.grd_program.specs.declared.status.Status.TheVariants.{OutOfMemory as StatusOutOfMemory};
+
+    ghost from_gives = { λ _ status. status ≡ StatusOutOfMemory };
+
+    fn from(_error: OutOfMemory) -> Status {
+        Status::OutOfMemory
     }
 }

@@ -3,9 +3,10 @@ ghost use Rattle.std.specs.Str.{bytes_eq};
 ghost use Rattle.pddl_reader.specs.Spelling.{IsDeclared, IsFirstForm};
 ghost use Rattle.strips_model.specs.Worlds.{is_blocked, numbers_of, action_of, goal_of, has_atom};
 ghost use Rattle.grd_program.specs.Names.{HaveSame, texts_of, fluents_of, world_with};
-ghost use Rattle.grd_program.specs.Worlds.{predicate_of, positives, negatives, is_fluent, instance_of, spelled_task, FitsDomain, AreDeclared};
+ghost use Rattle.grd_program.specs.Worlds.{predicate_of, positives, negatives, is_fluent, instance_of, spelled_task, FitsDomain};
 
 use crate::names::Names;
+use goal_files::Goal;
 use grd_base::{AtomId, OutOfMemory};
 use pddl_reader::{Domain, Literal, Problem, Schema};
 use std::alloc::Global;
@@ -25,36 +26,23 @@ pub(crate) fn fits_domain(
     Ok(fits)
 }
 
-/// Whether each of the names is a predicate of the domain.
-pub(crate) fn are_declared(
-    alloc: Global,
-    domain: &Domain,
-    names: &[String],
-) -> Result<bool, OutOfMemory>
-    ensures { IfOk result (λ b. IsTrue b ↔ AreDeclared domain.now (map string_bytes names.now)) }
-{
-    let predicates = predicate_names(alloc, domain)?;
-    let names = texts(alloc, names)?;
-    Ok(predicates.contains_all(&names))
-}
-
-/// The task of the world with one goal, given by its predicates.
+/// The task of the world with these goals.
 pub(crate) fn task_of(
     alloc: Global,
     domain: &Domain,
     problem: &Problem,
-    goal: &[String],
+    goals: &[Goal],
 ) -> Result<Task, OutOfMemory>
     requires form { IsFirstForm domain.now }
     requires few_actions { length domain.now.actions ≤ 2 ^ 21 }
-    ensures { IfOk result (λ t. t
-        ≡ spelled_task domain.now problem.now (map string_bytes goal.now ∷ [])) }
+    requires few_goals { length goals.now ≤ 32 }
+    ensures { IfOk result (λ t. t ≡ spelled_task domain.now problem.now goals.now) }
 {
     let start = positive_names(alloc, &problem.init)?;
     let atoms = Atoms::new(alloc, domain, &start)?;
     let init = atoms.numbers_of(alloc, &start)?;
     let actions = atoms.actions_of(alloc, &domain.actions)?;
-    let goals = atoms.goals_of(alloc, &texts(alloc, goal)?)?;
+    let goals = atoms.goals_of(alloc, goals)?;
     Ok(Task {
         atoms: atoms.fluents.len() as u32,
         init,
@@ -134,18 +122,26 @@ impl Atoms {
         })
     }
 
-    /// One goal, of the named atoms.
-    fn goals_of(&self, alloc: Global, names: &[&str]) -> Result<Vec<Condition>, OutOfMemory>
-        ensures { IfOk result (λ goals. goals.items
-            ≡ goal_of bytes_eq (world_with self.now.fluents self.now.initial) (texts_of names.now) ∷ []) }
+    fn goals_of(&self, alloc: Global, goals: &[Goal]) -> Result<Vec<Condition>, OutOfMemory>
+        ensures { IfOk result (λ conditions. conditions.items
+            ≡ map (goal_of bytes_eq (world_with self.now.fluents self.now.initial)) goals.now) }
     {
-        let goal = Condition {
-            atoms: self.numbers_of(alloc, names)?,
-            blocked: self.is_blocked(names),
-        };
-        let mut goals = Vec::new(alloc);
-        goals.push(goal)?;
-        Ok(goals)
+        let mut conditions = Vec::with_capacity(alloc, goals.len())?;
+        for goal in goals {
+            conditions.push(self.goal_of(alloc, goal)?)?;
+        }
+        Ok(conditions)
+    }
+
+    fn goal_of(&self, alloc: Global, goal: &Goal) -> Result<Condition, OutOfMemory>
+        ensures { IfOk result (λ condition. condition
+            ≡ goal_of bytes_eq (world_with self.now.fluents self.now.initial) goal.now) }
+    {
+        let names = texts(alloc, &goal.atoms)?;
+        Ok(Condition {
+            atoms: self.numbers_of(alloc, &names)?,
+            blocked: self.is_blocked(&names),
+        })
     }
 }
 

@@ -1,0 +1,145 @@
+ghost use Rattle.std.specs.Prelude.{◌≡◌, ℕ, ◌^◌, ◌<◌, ◌≤◌, List, [], length, map, All, Bool, IfSome, IfOk, IfErr, OnOk, string_bytes};
+ghost use Rattle.std.specs.Option.{option_map};
+ghost use Rattle.strips_model.specs.Common.{AreRight};
+ghost use Rattle.pddl_reader.specs.Spelling.{IsFirstForm};
+ghost use Rattle.grd_program.specs.Causes.{IsQuiet};
+ghost use Rattle.grd_program.specs.Reports.{action_names, IsWcdReport, IsReportOn};
+ghost use Rattle.grd_program.specs.Runs.{TakesFiles, IsAnswerText, HasFilesCause, HasInputCause, HasSearchCause, HasAnswerCause, HasPassed};
+
+use crate::command::Command;
+use crate::files::{domain_of, goals_of, problem_of};
+use crate::job::Job;
+use crate::report::{cost_report, wcd_report};
+use crate::status::{LimitFault, Status};
+use crate::words::{WordsFault, read_words};
+use crate::world::task_of;
+use goal_files::Goal;
+use grd_base::ActionId;
+use grd_io::Shelf;
+use pddl_reader::{Domain, Problem};
+use plain_search::{GoalSearchFault, costs, wcd};
+use std::alloc::Global;
+use strips_model::Task;
+
+/// What the files of a job spell.
+#[derive(Drop)]
+struct Inputs {
+    domain: Domain,
+    problem: Problem,
+    goals: Vec<Goal>,
+}
+
+/// Reads the three files in their order.
+fn read_inputs<F: Shelf>(alloc: Global, shelf: &mut F, job: &Job) -> Result<Inputs, Status>
+    ensures taken { IfOk result
+        (λ i. TakesFiles (F.told shelf.old) job.now i.domain i.problem i.goals.items) }
+    ensures form { IfOk result (λ i. IsFirstForm i.domain) }
+    ensures few_actions { IfOk result (λ i. length i.domain.actions ≤ 2 ^ 21) }
+    ensures few_goals { IfOk result (λ i. length i.goals.items ≤ 32) }
+    ensures cause { IfErr result
+        (HasFilesCause (F.told shelf.old) (F.faults shelf.old) (F.faults shelf.new) job.now) }
+    ensures files_stay { (x : List ℕ) → F.told shelf.new x ≡ F.told shelf.old x }
+    ensures later { (x : List ℕ) (w : Bool) → F.faults shelf.old x w ≤ F.faults shelf.new x w }
+    ensures quiet { OnOk result (IsQuiet (F.faults shelf.old) (F.faults shelf.new)) }
+{
+    let domain = domain_of(alloc, shelf, &job.domain)?;
+    let problem = problem_of(alloc, shelf, &job.problem, &domain)?;
+    let goals = goals_of(alloc, shelf, &job.goals, &domain)?;
+    Ok(Inputs {
+        domain,
+        problem,
+        goals,
+    })
+}
+
+/// The report of `wcd` over a task whose costs were found.
+fn wcd_on(
+    alloc: Global,
+    task: &Task,
+    states: u32,
+    domain: &Domain,
+    found: &[Option<Vec<ActionId>>],
+) -> Result<String, Status>
+    requires states { 1 ≤ states }
+    requires right { AreRight task.now [] (map (option_map (λ plan. plan.items)) found.now) }
+    requires same_actions { length task.now.actions ≡ length domain.now.actions }
+    requires in_range { All
+        (λ x. IfSome x (λ plan. All (λ a. a.0 < length domain.now.actions) plan.items)) found.now }
+    ensures report { IfOk result
+        (λ text. IsWcdReport task.now (action_names domain.now)
+        (map (option_map (λ plan. plan.items)) found.now) (string_bytes text)) }
+    ensures cause { IfErr result (HasSearchCause states task.now) }
+{
+    let witness = match wcd(alloc, task, found, states) {
+        Ok(witness) => witness,
+        Err(GoalSearchFault::TooManyStates(goal)) => {
+            return Err(Status::Limit(LimitFault::States(goal, states)));
+        }
+        Err(GoalSearchFault::OutOfMemory) => return Err(Status::OutOfMemory),
+    };
+    Ok(wcd_report(alloc, &domain.actions, found, &witness)?)
+}
+
+/// The command's report over a world that was read.
+fn report_on(
+    alloc: Global,
+    command: Command,
+    states: u32,
+    domain: &Domain,
+    problem: &Problem,
+    goals: &[Goal],
+) -> Result<String, Status>
+    requires states { 1 ≤ states }
+    requires form { IsFirstForm domain.now }
+    requires few_actions { length domain.now.actions ≤ 2 ^ 21 }
+    requires few_goals { length goals.now ≤ 32 }
+    ensures report { IfOk result
+        (λ text. IsReportOn command domain.now problem.now goals.now (string_bytes text)) }
+    ensures cause { IfErr result (HasAnswerCause states domain.now problem.now goals.now) }
+{
+    let task = task_of(alloc, domain, problem, goals)?;
+    let found = match costs(alloc, &task, states) {
+        Ok(found) => found,
+        Err(GoalSearchFault::TooManyStates(goal)) => {
+            return Err(Status::Limit(LimitFault::States(goal, states)));
+        }
+        Err(GoalSearchFault::OutOfMemory) => return Err(Status::OutOfMemory),
+    };
+    match command {
+        Command::Cost => Ok(cost_report(alloc, &domain.actions, &found)?),
+        Command::Wcd => wcd_on(alloc, &task, states, domain, &found),
+    }
+}
+
+/// The report for which the words ask, or why there is none.
+pub(crate) fn answer<F: Shelf>(
+    alloc: Global,
+    words: &[String],
+    shelf: &mut F,
+) -> Result<String, Status>
+    ensures report { IfOk result
+        (λ text. IsAnswerText (F.told shelf.old) (map string_bytes words.now) (string_bytes text)) }
+    ensures passed { OnOk result
+        (HasPassed (F.told shelf.old) (F.faults shelf.old) (F.faults shelf.new)
+        (map string_bytes words.now)) }
+    ensures cause { IfErr result
+        (HasInputCause (F.told shelf.old) (F.faults shelf.old) (F.faults shelf.new)
+        (map string_bytes words.now)) }
+    ensures files_stay { (x : List ℕ) → F.told shelf.new x ≡ F.told shelf.old x }
+    ensures later { (x : List ℕ) (w : Bool) → F.faults shelf.old x w ≤ F.faults shelf.new x w }
+{
+    let job = match read_words(alloc, words) {
+        Ok(job) => job,
+        Err(WordsFault::Usage(fault)) => return Err(Status::Usage(fault)),
+        Err(WordsFault::OutOfMemory) => return Err(Status::OutOfMemory),
+    };
+    let inputs = read_inputs(alloc, shelf, &job)?;
+    report_on(
+        alloc,
+        job.command,
+        job.limits.states,
+        &inputs.domain,
+        &inputs.problem,
+        &inputs.goals,
+    )
+}
