@@ -1,4 +1,4 @@
-ghost use Rattle.std.specs.Prelude.{◌≡◌, ◌⊎◌, ℕ, ◌^◌, ◌≤◌, List, length, IfOk};
+ghost use Rattle.std.specs.Prelude.{◌≡◌, ◌⊎◌, ℕ, ◌^◌, ◌≤◌, List, length, IfOk, IsOkAnd};
 ghost use Rattle.goal_files.specs.Goals.{SpellsGoals, IsGoalFault};
 
 use crate::faults::GoalFault;
@@ -14,7 +14,7 @@ pub fn read_goals(alloc: Global, domain: &Domain, text: &[u8]) -> Result<Vec<Goa
     ensures fault { (f : GoalFault) → result ≡ Err f
         → (f ≡ GoalFault.OutOfMemory) ⊎ IsGoalFault domain.now text.now f }
     ensures spelled_exactly { (goals : List (List (List ℕ))) → SpellsGoals domain.now text.now goals
-        → IfOk result (λ found. found.items ≡ goals) ⊎ (result ≡ Err GoalFault.OutOfMemory) }
+        → IsOkAnd result (λ found. found.items ≡ goals) ⊎ (result ≡ Err GoalFault.OutOfMemory) }
     ensures fault_exactly { (f : GoalFault) → IsGoalFault domain.now text.now f
         → (result ≡ Err f) ⊎ (result ≡ Err GoalFault.OutOfMemory) }
 {

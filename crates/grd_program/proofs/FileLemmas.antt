@@ -1,16 +1,25 @@
 -- What was read of a file, as a fact on what its shelf tells.
-use Rattle.std.proofs.Common.{◌≡◌, ℕ, ◌^◌, ◌≤◌, List, length, Option, Some, None, sym, subst, ◌∙◌, refl}
-use Rattle.std.specs.Prelude.{IsSomeAnd, IfSome, IfOk, Result, Ok, Err, IsTrue, ◌↔◌, Bool, false}
+use Rattle.std.proofs.Common.{◌≡◌, ℕ, ◌^◌, ◌≤◌, List, [], length, Option, Some, None, sym, subst, ◌∙◌, refl, ap, ◌⊎◌, inl, inr, arith}
+use Rattle.std.specs.Prelude.{IsSomeAnd, IfSome, IfOk, OnOk, Result, Ok, Err, IsTrue, ◌↔◌, Bool, false}
+use Rattle.std.specs.Option.{option_map_or}
 use Rattle.std.proofs.lemmas.Bool.{false≢true}
 use Rattle.grd_io.specs.Bytes.{Told, IsWholeFile}
 use Rattle.pddl_reader.specs.Values.{PlainDomain, PlainProblem}
 use Rattle.pddl_reader.specs.Spelling.{IsDomainText, IsProblemText}
-use Rattle.grd_program.specs.Commands.{AreCostWords}
-use Rattle.grd_program.specs.GoalLines.{SpellsGoal}
-use Rattle.grd_program.specs.Worlds.{FitsDomain, AreDeclared}
-use Rattle.grd_program.specs.Reports.{IsReportOn}
-use Rattle.grd_program.specs.Causes.{HasText, LacksText}
-use Rattle.grd_program.specs.Runs.{SpellsOnly, IsWorldReport, IsCostText, TakesFiles}
+use Rattle.grd_program.specs.declared.command.Command.{Command}
+use Rattle.grd_program.specs.declared.command.OptionName.TheVariants.{MaxStates}
+use Rattle.grd_program.specs.declared.status.UsageFault.{UsageFault}
+use Rattle.grd_program.specs.declared.words.WordsFault.{WordsFault}
+use Rattle.grd_program.specs.declared.words.WordsFault.TheVariants.{Usage, OutOfMemory as NoMemory}
+use Rattle.grd_program.specs.Commands.{PlainJob, Reads, GivesNumber, IsNumber, IsUsageFault}
+use Rattle.grd_base.specs.declared.ids.ActionId.{ActionId}
+use Rattle.strips_model.specs.Values.{PlainTask}
+use Rattle.strips_model.specs.Common.{AreRight}
+use Rattle.grd_program.specs.declared.command.Command.TheVariants.{Wcd}
+use Rattle.grd_program.specs.Worlds.{FitsDomain, spelled_task}
+use Rattle.grd_program.specs.Reports.{action_names, IsWcdReport, IsReportOn}
+use Rattle.grd_program.specs.Causes.{HasText, LacksText, SpellsOnlyGoals}
+use Rattle.grd_program.specs.Runs.{SpellsOnly, IsWorldReport, IsAnswerText, TakesFiles, ReadsOnly, HasOnlyUsageFault}
 
 -- the text that was read lacks the property
 pub lacks : (told : Told) (bytes : List ℕ) (P : List ℕ → Type 0) → IsWholeFile told bytes → (P bytes → ⊥) → LacksText told P
@@ -31,17 +40,17 @@ pub fails_alone : {V : Type 0} (S T : V → Type 0) (x : V) (b : Bool) → (IsTr
 fails_alone S T x b decides off only y s t = absurd (false≢true (sym off ∙ decides.1 (subst T (only y s) t)))
 
 -- the report over files that are taken
-pub world_report : (dt pt gt : Told) (d : PlainDomain) (p : PlainProblem) (goal : List (List ℕ)) (text : List ℕ)
+pub world_report : (command : Command) (dt pt gt : Told) (d : PlainDomain) (p : PlainProblem) (goals : List (List (List ℕ))) (text : List ℕ)
     → HasText dt (SpellsOnly IsDomainText d) → HasText pt (SpellsOnly IsProblemText p) → FitsDomain d p
-    → HasText gt (SpellsOnly SpellsGoal goal) → AreDeclared d goal → IsReportOn d p goal text
-    → IfSome dt (λ df. IfSome pt (λ pf. IfSome gt (λ gf. IsWorldReport df pf gf text)))
-world_report None pt gt d p goal text hd hp fit hg declared report = tt
-world_report (Some df) None gt d p goal text hd hp fit hg declared report = tt
-world_report (Some df) (Some pf) None d p goal text hd hp fit hg declared report = tt
-world_report (Some None) (Some pf) (Some gf) d p goal text hd hp fit hg declared report = absurd hd
-world_report (Some (Some dt)) (Some None) (Some gf) d p goal text hd hp fit hg declared report = absurd hp
-world_report (Some (Some dt)) (Some (Some pt)) (Some None) d p goal text hd hp fit hg declared report = absurd hg
-world_report (Some (Some dt)) (Some (Some pt)) (Some (Some gt)) d p goal text hd hp fit hg declared report = record {
+    → HasText gt (λ t. SpellsOnlyGoals d t goals) → IsReportOn command d p goals text
+    → IfSome dt (λ df. IfSome pt (λ pf. IfSome gt (λ gf. IsWorldReport command df pf gf text)))
+world_report command None pt gt d p goals text hd hp fit hg report = tt
+world_report command (Some df) None gt d p goals text hd hp fit hg report = tt
+world_report command (Some df) (Some pf) None d p goals text hd hp fit hg report = tt
+world_report command (Some None) (Some pf) (Some gf) d p goals text hd hp fit hg report = absurd hd
+world_report command (Some (Some dt)) (Some None) (Some gf) d p goals text hd hp fit hg report = absurd hp
+world_report command (Some (Some dt)) (Some (Some pt)) (Some None) d p goals text hd hp fit hg report = absurd hg
+world_report command (Some (Some dt)) (Some (Some pt)) (Some (Some gt)) d p goals text hd hp fit hg report = record {
   domain_text = dt;
   problem_text = pt;
   goals_text = gt;
@@ -53,22 +62,78 @@ world_report (Some (Some dt)) (Some (Some pt)) (Some (Some gt)) d p goal text hd
   goals_short = hg.0;
   domain = d;
   problem = p;
-  goal = goal;
-  spelled = record { domain = hd.1.0; problem = hp.1.0; fits = fit; goals = hg.1.0; declared = declared };
+  goals = goals;
+  spelled = record { domain = hd.1.0; problem = hp.1.0; fits = fit; gives = hg.1.spells };
   report = report;
 }
 
-pub cost_text_is : (told : List ℕ → Told) (words : List (List ℕ)) (domain problem goals : List ℕ) (d : PlainDomain) (p : PlainProblem) (goal : List (List ℕ)) (text : List ℕ)
-    → AreCostWords words domain problem goals → TakesFiles told domain problem goals d p goal → IsReportOn d p goal text → IsCostText told words text
-cost_text_is told words domain problem goals d p goal text are taken report = record {
-  domain = domain;
-  problem = problem;
-  goals = goals;
-  are_words = are;
-  reports = world_report (told domain) (told problem) (told goals) d p goal text
-      taken.takes_domain taken.takes_problem.0 taken.takes_problem.1 taken.takes_goal.0 taken.takes_goal.1 report;
+pub answer_text_is : (told : List ℕ → Told) (words : List (List ℕ)) (job : PlainJob) (d : PlainDomain) (p : PlainProblem) (goals : List (List (List ℕ))) (text : List ℕ)
+    → Reads words job → TakesFiles told job d p goals → IsReportOn job.command d p goals text → IsAnswerText told words text
+answer_text_is told words job d p goals text reads taken report = record {
+  job = job;
+  reads = reads;
+  reports = world_report job.command (told job.domain) (told job.problem) (told job.goals) d p goals text
+      taken.takes_domain taken.takes_problem.0 taken.takes_problem.1 taken.takes_goals report;
 }
 
 pub ok_more : {T E : Type 0} (P Q : T → Type 0) (r : Result T E) → ((x : T) → P x → Q x) → IfOk r P → IfOk r Q
 ok_more P Q (Ok x) more p = more x p
 ok_more P Q (Err e) more p = tt
+
+pub on_ok : {T E : Type 0} (Q : Type 0) (r : Result T E) → Q → OnOk r Q
+on_ok Q (Ok x) q = q
+on_ok Q (Err e) q = tt
+
+-- a number of states that the words give is at least one
+pub some_states : (words : List (List ℕ)) (job : PlainJob) → Reads words job → 1 ≤ job.limits.states
+some_states words job reads = at_least job.limits.states reads.states
+  where
+    at_least : (n : ℕ) → GivesNumber reads.items MaxStates 100000 n → 1 ≤ n
+    at_least n (inl (value, range, given, is, number)) = some n range value is number
+      where
+        some : (n : ℕ) (range : ℕ × ℕ) (value : List ℕ) → Some (1, 200000) ≡ Some range → IsNumber range value n → 1 ≤ n
+        some n range value is number =
+            let least : range.0 ≡ 1 = ap (λ o. (option_map_or (λ (r : ℕ × ℕ). r.0) o 1)) (sym is) in
+            omega (arith, number.least)
+    at_least n (inr (none, is)) = omega arith
+
+-- the report of 'wcd' over the world's task
+pub wcd_report_on : (command : Command) (d : PlainDomain) (p : PlainProblem) (goals : List (List (List ℕ))) (t : PlainTask) (found : List (Option (List ActionId))) (text : List ℕ)
+    → command ≡ Wcd → t ≡ spelled_task d p goals → AreRight t [] found → IsWcdReport t (action_names d) found text → IsReportOn command d p goals text
+wcd_report_on command d p goals t found text is same right report =
+    subst (λ k. IsReportOn k d p goals text) (sym is)
+    (found, subst (λ u. AreRight u [] found) same right, subst (λ u. IsWcdReport u (action_names d) found text) same report)
+
+-- what a reading of words says by its clauses, where it answers a job or a fault
+module _ (words : List (List ℕ)) (r : Result PlainJob WordsFault)
+    (read_exactly : (job : PlainJob) → Reads words job → (r ≡ Ok job) ⊎ (r ≡ Err NoMemory))
+    (fault_exactly : (f : UsageFault) → IsUsageFault words f → (r ≡ Err (Usage f)) ⊎ (r ≡ Err NoMemory)) where
+  pub only_job : (job : PlainJob) → r ≡ Ok job → Reads words job → ReadsOnly words job
+  only_job job is reads = record {
+    reads = reads;
+    only = λ other s. one other (read_exactly other s);
+    no_fault = λ f h. none f (fault_exactly f h);
+  }
+    where
+      one : (other : PlainJob) → (r ≡ Ok other) ⊎ (r ≡ Err NoMemory) → other ≡ job
+      one other (inl e) = cc
+      one other (inr e) = cc
+
+      none : (f : UsageFault) → (r ≡ Err (Usage f)) ⊎ (r ≡ Err NoMemory) → ⊥
+      none f (inl e) = cc
+      none f (inr e) = cc
+
+  pub only_usage : (fault : UsageFault) → r ≡ Err (Usage fault) → IsUsageFault words fault → HasOnlyUsageFault words fault
+  only_usage fault is has = record {
+    has = has;
+    only = λ other h. one other (fault_exactly other h);
+    no_job = λ job s. none job (read_exactly job s);
+  }
+    where
+      one : (other : UsageFault) → (r ≡ Err (Usage other)) ⊎ (r ≡ Err NoMemory) → other ≡ fault
+      one other (inl e) = cc
+      one other (inr e) = cc
+
+      none : (job : PlainJob) → (r ≡ Ok job) ⊎ (r ≡ Err NoMemory) → ⊥
+      none job (inl e) = cc
+      none job (inr e) = cc

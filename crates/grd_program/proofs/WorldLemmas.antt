@@ -61,13 +61,13 @@ module _ (fluents initial : List (List ℕ)) where
     below = All-from_recursion (λ a. a.0 < length fluents) _ (places_below (has_atom bytes_eq names) (length fluents) 0 fluents (omega arith));
   }
 
-  pub parts_are : (atoms : ℕ) (init : List AtomId) (actions : List GroundAction) (goals : List Goal) (names goal : List (List ℕ)) (acts : List (Instance (List ℕ)))
+  pub parts_are : (atoms : ℕ) (init : List AtomId) (actions : List GroundAction) (goals : List Goal) (names : List (List ℕ)) (acts : List (Instance (List ℕ))) (goal_names : List (List (List ℕ)))
       → atoms ≡ length fluents → init ≡ numbers_of bytes_eq (world_with fluents initial) names
-      → actions ≡ map (action_of bytes_eq (world_with fluents initial)) acts → goals ≡ goal_of bytes_eq (world_with fluents initial) goal ∷ []
-      → length fluents ≤ 4096 → length acts ≤ 2 ^ 21
+      → actions ≡ map (action_of bytes_eq (world_with fluents initial)) acts → goals ≡ map (goal_of bytes_eq (world_with fluents initial)) goal_names
+      → length fluents ≤ 4096 → length acts ≤ 2 ^ 21 → length goal_names ≤ 32
       → IsTask (record { atoms = atoms; init = init; actions = actions; goals = goals })
-  parts_are atoms init actions goals names goal acts en ei ea eg few_fluents few_actions =
-      let whole : ◌≡◌ {A = PlainTask} (record { atoms = length fluents; init = numbers_of bytes_eq (world_with fluents initial) names; actions = map (action_of bytes_eq (world_with fluents initial)) acts; goals = goal_of bytes_eq (world_with fluents initial) goal ∷ [] })
+  parts_are atoms init actions goals names acts goal_names en ei ea eg few_fluents few_actions few_goals =
+      let whole : ◌≡◌ {A = PlainTask} (record { atoms = length fluents; init = numbers_of bytes_eq (world_with fluents initial) names; actions = map (action_of bytes_eq (world_with fluents initial)) acts; goals = map (goal_of bytes_eq (world_with fluents initial)) goal_names })
       (record { atoms = atoms; init = init; actions = actions; goals = goals })
       = λ i. record { atoms = sym en i; init = sym ei i; actions = sym ea i; goals = sym eg i } in
       subst IsTask whole (record {
@@ -75,9 +75,9 @@ module _ (fluents initial : List (List ℕ)) where
         init = numbers_are names;
         actions = All-map (IsActionBelow (length fluents)) (action_of bytes_eq (world_with fluents initial)) acts
             (λ k d within. record { pre = numbers_are _; add = numbers_are _; del = numbers_are _ });
-        goals = All-cons (λ g. AreAtoms (length fluents) g.atoms) (goal_of bytes_eq (world_with fluents initial) goal) [] (numbers_are goal) (All-nil (λ g. AreAtoms (length fluents) g.atoms));
+        goals = All-map (λ g. AreAtoms (length fluents) g.atoms) (goal_of bytes_eq (world_with fluents initial)) goal_names (λ k d within. numbers_are _);
         few_actions = omega (arith, length-map acts (action_of bytes_eq (world_with fluents initial)));
-        few_goals = omega arith;
+        few_goals = omega (arith, length-map goal_names (goal_of bytes_eq (world_with fluents initial)));
       })
 
 -- the task does not depend on the order of the atoms at the start
@@ -105,6 +105,12 @@ module _ (w : World (List ℕ)) (initial : List (List ℕ)) (same : HaveSame ini
       let starts : init ≡ numbers_of bytes_eq w w.init = ei ∙ ap (λ f. numbers_of bytes_eq (world_with f initial) w.init) ef in
       let ends : goals ≡ map (goal_of bytes_eq w) w.goals = eg ∙ ap (λ f. map (goal_of bytes_eq (world_with f initial)) w.goals) ef ∙ goals_same w.goals in
       λ i. record { atoms = length (ef i); init = starts i; actions = acts i; goals = ends i }
+
+-- one more of a list that is mapped
+pub map_next : {A B : Type 0} (f : A → B) (xs : List A) (i : ℕ) (x : A) (old new : List B) (y : B) → i < length xs → x ≡ get_or xs i x
+    → old ≡ map f (take i xs) → y ≡ f x → new ≡ old ++ y ∷ [] → new ≡ map f (take (i + 1) xs)
+map_next f xs i x old new y within is before made step =
+    step ∙ ap₂ (λ front z. front ++ z ∷ []) before (made ∙ ap f is) ∙ sym (map_more f xs i x within)
 
 -- one more of a list that is mapped twice
 pub maps_next : {A B C : Type 0} (f : B → C) (g : A → B) (xs : List A) (i : ℕ) (x : A) (old new : List C) (y : C) → i < length xs → x ≡ get_or xs i x

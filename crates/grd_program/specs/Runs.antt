@@ -27,7 +27,7 @@ pub record SpellWorld (domain_text problem_text goals_text : List ℕ) (d : Plai
   pub domain : IsDomainText domain_text d
   pub problem : IsProblemText problem_text p
   pub fits : FitsDomain d p
-  pub goals : SpellsGoals d goals_text goals
+  pub gives : SpellsGoals d goals_text goals
 
 -- the text is the command's report over the world that the three files, of at most 2^20 bytes each, spell
 pub record IsWorldReport (command : Command) (domain_file problem_file goals_file : Option (List ℕ)) (text : List ℕ) : Type 0 where
@@ -161,6 +161,12 @@ pub record HasOnlyUsageFault (words : List (List ℕ)) (fault : UsageFault) : Ty
   pub has : IsUsageFault words fault
   pub only : (other : UsageFault) → IsUsageFault words other → other ≡ fault
   pub no_job : (job : PlainJob) → Reads words job → ⊥
+
+-- why there is no job: the words are at fault
+abbrev pub HasWordsCause : List (List ℕ) → Status → Type 0
+HasWordsCause words (Usage fault) = HasOnlyUsageFault words fault
+HasWordsCause words OutOfMemory = Unit {0}
+HasWordsCause words status = ⊥
 
 -- why there is no report: the words are at fault, and then the shelf was not used, or the files of the
 -- job are the cause

@@ -4,7 +4,7 @@ ghost use Rattle.strips_model.specs.Common.{AreRight};
 ghost use Rattle.pddl_reader.specs.Spelling.{IsFirstForm};
 ghost use Rattle.grd_program.specs.Causes.{IsQuiet};
 ghost use Rattle.grd_program.specs.Reports.{action_names, IsWcdReport, IsReportOn};
-ghost use Rattle.grd_program.specs.Runs.{TakesFiles, IsAnswerText, HasFilesCause, HasInputCause, HasSearchCause, HasAnswerCause, HasPassed};
+ghost use Rattle.grd_program.specs.Runs.{TakesFiles, IsAnswerText, ReadsOnly, HasWordsCause, HasFilesCause, HasInputCause, HasSearchCause, HasAnswerCause, HasPassed};
 
 use crate::command::Command;
 use crate::files::{domain_of, goals_of, problem_of};
@@ -14,12 +14,24 @@ use crate::status::{LimitFault, Status};
 use crate::words::{WordsFault, read_words};
 use crate::world::task_of;
 use goal_files::Goal;
-use grd_base::ActionId;
+use grd_base::{ActionId, GoalId};
 use grd_io::Shelf;
 use pddl_reader::{Domain, Problem};
 use plain_search::{GoalSearchFault, costs, wcd};
 use std::alloc::Global;
 use strips_model::Task;
+
+/// The job for which the words ask.
+fn job_of(alloc: Global, words: &[String]) -> Result<Job, Status>
+    ensures reads { IfOk result (ReadsOnly (map string_bytes words.now)) }
+    ensures cause { IfErr result (HasWordsCause (map string_bytes words.now)) }
+{
+    match read_words(alloc, words) {
+        Ok(job) => Ok(job),
+        Err(WordsFault::Usage(fault)) => Err(Status::Usage(fault)),
+        Err(WordsFault::OutOfMemory) => Err(Status::OutOfMemory),
+    }
+}
 
 /// What the files of a job spell.
 #[derive(Drop)]
@@ -52,6 +64,18 @@ fn read_inputs<F: Shelf>(alloc: Global, shelf: &mut F, job: &Job) -> Result<Inpu
     })
 }
 
+/// How a run ends where a search has no answer.
+fn search_status(fault: GoalSearchFault, states: u32) -> Status
+    ensures many { (g : GoalId) → fault ≡ GoalSearchFault.TooManyStates g
+        → result ≡ Status.Limit (LimitFault.States g states) }
+    ensures memory { fault ≡ GoalSearchFault.OutOfMemory → result ≡ Status.OutOfMemory }
+{
+    match fault {
+        GoalSearchFault::TooManyStates(goal) => Status::Limit(LimitFault::States(goal, states)),
+        GoalSearchFault::OutOfMemory => Status::OutOfMemory,
+    }
+}
+
 /// The report of `wcd` over a task whose costs were found.
 fn wcd_on(
     alloc: Global,
@@ -72,10 +96,7 @@ fn wcd_on(
 {
     let witness = match wcd(alloc, task, found, states) {
         Ok(witness) => witness,
-        Err(GoalSearchFault::TooManyStates(goal)) => {
-            return Err(Status::Limit(LimitFault::States(goal, states)));
-        }
-        Err(GoalSearchFault::OutOfMemory) => return Err(Status::OutOfMemory),
+        Err(fault) => return Err(search_status(fault, states)),
     };
     Ok(wcd_report(alloc, &domain.actions, found, &witness)?)
 }
@@ -100,10 +121,7 @@ fn report_on(
     let task = task_of(alloc, domain, problem, goals)?;
     let found = match costs(alloc, &task, states) {
         Ok(found) => found,
-        Err(GoalSearchFault::TooManyStates(goal)) => {
-            return Err(Status::Limit(LimitFault::States(goal, states)));
-        }
-        Err(GoalSearchFault::OutOfMemory) => return Err(Status::OutOfMemory),
+        Err(fault) => return Err(search_status(fault, states)),
     };
     match command {
         Command::Cost => Ok(cost_report(alloc, &domain.actions, &found)?),
@@ -128,11 +146,7 @@ pub(crate) fn answer<F: Shelf>(
     ensures files_stay { (x : List ℕ) → F.told shelf.new x ≡ F.told shelf.old x }
     ensures later { (x : List ℕ) (w : Bool) → F.faults shelf.old x w ≤ F.faults shelf.new x w }
 {
-    let job = match read_words(alloc, words) {
-        Ok(job) => job,
-        Err(WordsFault::Usage(fault)) => return Err(Status::Usage(fault)),
-        Err(WordsFault::OutOfMemory) => return Err(Status::OutOfMemory),
-    };
+    let job = job_of(alloc, words)?;
     let inputs = read_inputs(alloc, shelf, &job)?;
     report_on(
         alloc,

@@ -2,6 +2,7 @@ ghost use Rattle.std.specs.Prelude.{◌≡◌, ◌++◌, IfOk, OnOk, string_byte
 ghost use Rattle.std.specs.Fmt.{decimal};
 ghost use Rattle.grd_program.specs.Errors.{role_text, usage_text, goals_text, refusal_text, error_text, IsPlainRefusal, IsPlainStatus};
 
+use crate::report::number_of;
 use crate::status::{LimitFault, Refusal, Status, Target, UsageFault};
 use goal_files::GoalFault;
 use grd_base::{FileRole, OutOfMemory};
@@ -25,7 +26,7 @@ pub fn error_line(alloc: Global, status: &Status) -> Result<Vec<u8>, OutOfMemory
         Status::Refused(refusal) => push_refusal(&mut line, refusal)?,
         Status::Usage(fault) => push_usage(&mut line, fault)?,
         Status::Limit(LimitFault::States(goal, states)) => {
-            push_limit(&mut line, u64::from(goal.0) + 1, *states)?;
+            push_limit(&mut line, number_of(*goal), *states)?;
         }
         Status::ReadFailed(role) => push_read_failed(&mut line, role)?,
         Status::WriteFailed(Target::Output) => return Ok(Vec::from_slice(alloc, OUTPUT_FAILED)?),
@@ -43,7 +44,7 @@ fn push_refusal(line: &mut String, refusal: &Refusal) -> Result<(), OutOfMemory>
 {
     line.push_str("grd: ")?;
     match refusal {
-        Refusal::NotYet(role) => push_not_yet(line, role)?,
+        Refusal::NotYet(role) => push_role(line, role, ": not yet read")?,
         Refusal::TooLong(role, limit) => push_too_long(line, role, *limit)?,
         Refusal::Goals(fault) => push_goals(line, fault)?,
     }
@@ -51,14 +52,13 @@ fn push_refusal(line: &mut String, refusal: &Refusal) -> Result<(), OutOfMemory>
     Ok(())
 }
 
-/// Writes that a file is of a form that is not read yet.
-fn push_not_yet(line: &mut String, role: &FileRole) -> Result<(), OutOfMemory>
+/// Writes what happened to a file.
+fn push_role(line: &mut String, role: &FileRole, what: &str) -> Result<(), OutOfMemory>
     ensures { OnOk result
-        (string_bytes line.new ≡ string_bytes line.old ++
-        (role_text role.now ++ codes ": not yet read")) }
+        (string_bytes line.new ≡ string_bytes line.old ++ (role_text role.now ++ what.now)) }
 {
     line.push_str(name_of(role))?;
-    line.push_str(": not yet read")?;
+    line.push_str(what)?;
     Ok(())
 }
 
@@ -68,8 +68,8 @@ fn push_too_long(line: &mut String, role: &FileRole, limit: u64) -> Result<(), O
         (string_bytes line.new ≡ string_bytes line.old ++
         (role_text role.now ++ codes ": longer than " ++ decimal limit ++ codes " bytes")) }
 {
-    line.push_str(name_of(role))?;
-    write!(line, ": longer than {limit} bytes")?;
+    let name = name_of(role);
+    write!(line, "{name}: longer than {limit} bytes")?;
     Ok(())
 }
 
@@ -133,9 +133,8 @@ fn push_read_failed(line: &mut String, role: &FileRole) -> Result<(), OutOfMemor
         (string_bytes line.new ≡ string_bytes line.old ++
         (codes "grd: " ++ role_text role.now ++ codes ": read failed\n")) }
 {
-    line.push_str("grd: ")?;
-    line.push_str(name_of(role))?;
-    line.push_str(": read failed\n")?;
+    let name = name_of(role);
+    write!(line, "grd: {name}: read failed\n")?;
     Ok(())
 }
 

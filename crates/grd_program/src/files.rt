@@ -133,7 +133,21 @@ pub(crate) fn goals_of<F: Shelf>(
     };
     match read_goals(alloc, domain, &text) {
         Ok(goals) => Ok(goals),
-        Err(GoalFault::OutOfMemory) => Err(Status::OutOfMemory),
-        Err(fault) => Err(Status::Refused(Refusal::Goals(fault))),
+        Err(fault) => Err(goals_status(fault)),
+    }
+}
+
+/// How a run ends where a goals file gives no goals.
+fn goals_status(fault: GoalFault) -> Status
+    ensures memory { fault ≡ GoalFault.OutOfMemory → result ≡ Status.OutOfMemory }
+    ensures refused { (fault ≡ GoalFault.OutOfMemory → ⊥)
+        → result ≡ Status.Refused (Refusal.Goals fault) }
+{
+    match fault {
+        GoalFault::OutOfMemory => Status::OutOfMemory,
+        GoalFault::Shape(_)
+        | GoalFault::UnknownAtom(_)
+        | GoalFault::NoGoal
+        | GoalFault::TooManyGoals(_) => Status::Refused(Refusal::Goals(fault)),
     }
 }

@@ -1,10 +1,10 @@
-ghost use Rattle.std.specs.Prelude.{◌≡◌, ◌<◌, ◌++◌, length, map, All, AllPairs, IfSome, IfOk, OnOk, string_bytes, codes, Some};
+ghost use Rattle.std.specs.Prelude.{◌≡◌, ◌+◌, ◌<◌, ◌++◌, length, map, All, AllPairs, IfSome, IfOk, OnOk, string_bytes, codes, Some};
 ghost use Rattle.std.specs.Option.{option_map};
 ghost use Rattle.std.specs.Fmt.{decimal};
 ghost use Rattle.grd_program.specs.Reports.{ground_name, plan_text, cost_text, cost_line, cost_lines, cost_report, plan_line, witness_lines, wcd_report};
 ghost use Rattle.grd_program.specs.Names.{IsOver};
 
-use grd_base::{ActionId, OutOfMemory};
+use grd_base::{ActionId, GoalId, OutOfMemory};
 use pddl_reader::Schema;
 use std::alloc::Global;
 use std::fmt::Write;
@@ -66,14 +66,21 @@ fn push_witness(
         (string_bytes report.new ≡ string_bytes report.old ++ witness_lines
         (map (λ a. a.name.text) actions.now) witness.now) }
 {
-    let first = u64::from(witness.goals.0.0) + 1;
-    let second = u64::from(witness.goals.1.0) + 1;
+    let first = number_of(witness.goals.0);
+    let second = number_of(witness.goals.1);
     push_length(report, witness.prefix.len() as u64, first, second)?;
     report.push_str("prefix")?;
     push_actions(report, actions, &witness.prefix)?;
     report.push_str("\n")?;
     push_plan_line(report, actions, first, &witness.plans.0)?;
     push_plan_line(report, actions, second, &witness.plans.1)
+}
+
+/// The number of a goal in texts, which count goals from 1.
+pub(crate) fn number_of(goal: GoalId) -> u64
+    ensures { result ≡ goal.0 + 1 }
+{
+    u64::from(goal.0) + 1
 }
 
 /// Writes the line of the wcd and its two goals.
