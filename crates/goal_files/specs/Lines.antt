@@ -98,4 +98,3 @@ AreGoalLines lines goals = ⊥
 -- the text spells these goals, in the order of the lines that are not skipped
 abbrev pub IsGoalsText : List ℕ → List (List (List (List ℕ))) → Type 0
 IsGoalsText text goals = AreGoalLines (filter (λ line. not (is_skipped line)) (lines_of text)) goals
-

@@ -1,10 +1,34 @@
-ghost use Rattle.std.specs.Prelude.{◌≡◌, ◌⊎◌, ℕ, ◌^◌, ◌≤◌, List, length, IfOk, IsOkAnd};
+ghost use Rattle.std.specs.Prelude.{◌≡◌, ◌⊎◌, ℕ, ◌^◌, ◌≤◌, List, length, IfErr, IfOk, IsOkAnd};
 ghost use Rattle.goal_files.specs.Goals.{SpellsGoals, IsGoalFault};
 
 use crate::faults::GoalFault;
 use crate::goal::Goal;
+use crate::lines::read_lines;
+use crate::predicates::Predicates;
 use pddl_reader::Domain;
 use std::alloc::Global;
+
+/// The most goals that a file may have.
+const MOST_GOALS: usize = 32;
+
+/// The goals that a text spells, where there are as many as may be.
+fn some_goals(alloc: Global, domain: &Domain, text: &[u8]) -> Result<Vec<Goal>, GoalFault>
+    requires { length text.now ≤ 2 ^ 20 }
+    ensures spelled { IfOk result (λ goals. SpellsGoals domain.now text.now goals.items) }
+    ensures fault { IfErr result
+        (λ f. (f ≡ GoalFault.OutOfMemory) ⊎ IsGoalFault domain.now text.now f) }
+{
+    let predicates = Predicates::of(alloc, domain)?;
+    let goals = read_lines(alloc, &predicates, text)?;
+    let count = goals.len();
+    if count == 0 {
+        return Err(GoalFault::NoGoal);
+    }
+    if count > MOST_GOALS {
+        return Err(GoalFault::TooManyGoals(count as u32));
+    }
+    Ok(goals)
+}
 
 /// The goals that a text spells over a domain, in the order of its lines. The first line that is at
 /// fault decides; then that there is no goal, or more than 32.
@@ -18,8 +42,5 @@ pub fn read_goals(alloc: Global, domain: &Domain, text: &[u8]) -> Result<Vec<Goa
     ensures fault_exactly { (f : GoalFault) → IsGoalFault domain.now text.now f
         → (result ≡ Err f) ⊎ (result ≡ Err GoalFault.OutOfMemory) }
 {
-    let _text = text;
-    let _domain = domain;
-    let _alloc = alloc;
-    Err(GoalFault::OutOfMemory)
+    some_goals(alloc, domain, text)
 }

@@ -2,3 +2,4 @@ pub mod WalkPlaceLemmas
 pub mod WalkStateLemmas
 pub mod WalkPlanLemmas
 pub mod WalkLemmas
+pub mod LayerLemmas

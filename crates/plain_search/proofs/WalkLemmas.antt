@@ -12,6 +12,7 @@ use Rattle.strips_model.specs.Values.{PlainTask}
 use Rattle.strips_model.specs.Plans.{State, after, step, start_of, goal_holds, IsCost, IsOptimal, IsPlan}
 use Rattle.strips_model.specs.Reached.{IsReachedFor, MoreThan}
 use Rattle.plain_search.specs.Walks.{Visit, HasState, IsNoted, AreWays, HasVisit, IsWalk, Expands, IsExpanded, LeadsToGoal}
+use Rattle.plain_search.specs.Depths.{IsBegun}
 use Rattle.plain_search.proofs.WalkPlaceLemmas.{pushed_cases, pushed_old, pushed_new, old_at, same_at, at_from_Any, Any-from_at, at_of_map}
 use Rattle.plain_search.proofs.WalkPlanLemmas.{some_same, some_and, after_push, after_nothing, no_action, first_step}
 
@@ -234,8 +235,9 @@ module _ (t : PlainTask) (g : GoalId) (head part : ℕ) (vs : List Visit) (is : 
         omega (arith, (far plan.0 plan.2).1, plan.1, is.near k within (slice_get_within vs k v at));
   }
 
-  pub found_many : (limit : ℕ) → head < length vs → limit < length vs → MoreThan limit (IsReachedFor t g)
-  found_many limit within many =
+  -- more visits than the limit, each with the property
+  pub many_visits : (P : State → Type 0) → ((k : ℕ) (v : Visit) → slice_get vs k ≡ Some v → P v.state) → (limit : ℕ) → limit < length vs → MoreThan limit P
+  many_visits P each limit many =
       let states : List State = map (λ v. v.state) vs in
       let same : length states ≡ length vs = length-map vs (λ v. v.state) in
       record {
@@ -247,7 +249,7 @@ module _ (t : PlainTask) (g : GoalId) (head part : ℕ) (vs : List Visit) (is : 
             is.differ i j x.0 y.0 lt x.1 y.1 (x.2 ∙ alike ∙ sym y.2);
         have = λ k d within_k.
             let x = at_of_map (λ (v : Visit). v.state) vs k (get_or states k d) (slice_get-get_or states k d within_k) in
-            subst (IsReachedFor t g) x.2 (counts within k x.0 x.1);
+            subst P x.2 (each k x.0 x.1);
       }
 
 -- one action more, from the state at the head
@@ -263,7 +265,7 @@ module _ (t : PlainTask) (g : GoalId) (limit head : ℕ) (from : State) (a : Act
     }
 
     module _ (misses : goal_holds t g x ≡ false) where
-      pushed : (HasState vs x → ⊥) → IsWalk t g head (a.0 + 1) (vs ++ record { state = x; parent = head; action = a } ∷ [])
+      pub pushed : (HasState vs x → ⊥) → IsWalk t g head (a.0 + 1) (vs ++ record { state = x; parent = head; action = a } ∷ [])
       pushed fresh = push_new t g head a.0 vs is.walk is.visit a x is.here refl (ap (λ s. step t s a) is.state ∙ to_x) misses fresh
 
       pub follow_noted : (ws : List Visit) → IsNoted vs ws (record { state = x; parent = head; action = a }) → length ws ≤ limit → Expands t g limit head (a.0 + 1) from ws
@@ -282,7 +284,8 @@ module _ (t : PlainTask) (g : GoalId) (limit head : ℕ) (from : State) (a : Act
       follow_many full fresh =
           let ws : List Visit = vs ++ record { state = x; parent = head; action = a } ∷ [] in
           let long : length ws ≡ length vs + 1 = length_push vs (record { state = x; parent = head; action = a }) in
-          found_many t g head (a.0 + 1) ws (pushed fresh) limit (omega (arith, slice_get_within vs head is.visit is.here)) (omega arith)
+          let walk = pushed fresh in
+          many_visits t g head (a.0 + 1) ws walk (IsReachedFor t g) (counts t g head (a.0 + 1) ws walk (omega (arith, slice_get_within vs head is.visit is.here))) limit (omega arith)
 
 pub walk_begins : (t : PlainTask) (g : GoalId) (first : Visit) → first.state ≡ start_of t → goal_holds t g (start_of t) ≡ false → IsWalk t g 0 0 (first ∷ [])
 walk_begins t g first is_start misses =
@@ -313,15 +316,13 @@ pub head_done : (t : PlainTask) (g : GoalId) (limit head part : ℕ) (from : Sta
 head_done t g limit head part from vs all is = record { walk = next_head t g head part vs is.walk all (slice_get_within vs head is.visit is.here); few = is.few }
 
 -- the start alone
-pub begins : (t : PlainTask) (g : GoalId) (limit : ℕ) (ws : List Visit) (v : Visit) → IsNoted [] ws v → v.state ≡ start_of t → goal_holds t g (start_of t) ≡ false → length ws ≤ limit
-    → IsExpanded t g limit 0 ws
-begins t g limit ws v noted is_start misses few = elim noted [
-  | inl known ↦ absurd (let a = at_from_Any (λ (x : Visit). x.state ≡ v.state) [] known.0 in let bad : a.0 < 0 = slice_get_within [] a.0 a.1 a.2 in omega arith)
-  | inr fresh ↦ record { walk = subst (λ us. IsWalk t g 0 0 us) (sym fresh.1) (walk_begins t g v is_start misses); few = few }
-]
+pub begins : (t : PlainTask) (g : GoalId) (limit : ℕ) (ws : List Visit) → IsBegun t ws → goal_holds t g (start_of t) ≡ false → 1 ≤ limit → IsExpanded t g limit 0 ws
+begins t g limit ws is misses some =
+    record { walk = subst (λ us. IsWalk t g 0 0 us) (sym is.only) (walk_begins t g is.visit is.state misses); few = omega (arith, ap length is.only) }
 
--- an action that leads to the goal, and the plan that ends with it
+-- the way to the head and an action that leads from there to the goal are a plan
 pub led_least : (t : PlainTask) (g : GoalId) (limit head : ℕ) (from : State) (a : ActionId) (vs : List Visit) (is : Expands t g limit head a.0 from vs) → LeadsToGoal t g from a
-    → (plan : List ActionId) → plan ≡ is.walk.path head ++ a ∷ [] → IsOptimal t g [] plan
-led_least t g limit head from a vs is leads plan same =
-    subst (λ p. IsOptimal t g [] p) (sym same) (found_least t g head a.0 vs is.walk is.visit a is.here (subst (λ s. LeadsToGoal t g s a) (sym is.state) leads))
+    → (way plan : List ActionId) → way ≡ is.walk.path head → plan ≡ way ++ a ∷ [] → IsOptimal t g [] plan
+led_least t g limit head from a vs is leads way plan same more =
+    subst (λ p. IsOptimal t g [] p) (ap (λ p. p ++ a ∷ []) (sym same) ∙ sym more)
+    (found_least t g head a.0 vs is.walk is.visit a is.here (subst (λ s. LeadsToGoal t g s a) (sym is.state) leads))

@@ -25,6 +25,11 @@ module _ {X : Type 0} where
   pub old_at : (xs : List X) (y x : X) (k : ℕ) → k < length xs → slice_get (xs ++ y ∷ []) k ≡ Some x → slice_get xs k ≡ Some x
   old_at xs y x k within at = elim (pushed_cases xs y x k at) [ inl old ↦ old | inr new ↦ absurd (omega (arith, new.0)) ]
 
+  pub there : (xs : List X) (k : ℕ) → k < length xs → (x : X) × (slice_get xs k ≡ Some x)
+  there [] k within = absurd (omega arith)
+  there (x ∷ xs) zero within = (x, refl)
+  there (x ∷ xs) (suc k) within = there xs k (omega arith)
+
   pub same_at : (xs : List X) (k : ℕ) (x y : X) → slice_get xs k ≡ Some x → slice_get xs k ≡ Some y → x ≡ y
   same_at xs k x y p q = cc
 

@@ -1,10 +1,12 @@
 -- Look-ups among the visited states.
-use Rattle.std.proofs.Common.{◌≡◌, ℕ, zero, suc, ◌==◌, Bool, true, false, cond, Decides, List, [], ◌∷◌, ◌++◌, length, refl, sym, ap, ◌∙◌, inl, inr, Option, Some, None, true≢false, arith, ◌≤◌}
-use Rattle.std.specs.Prelude.{slice_get}
+use Rattle.std.proofs.Common.{◌≡◌, ℕ, zero, suc, ◌==◌, Bool, true, false, cond, Decides, List, [], ◌∷◌, ◌++◌, length, get_or, refl, sym, ap, ◌∙◌, inl, inr, Option, Some, None, true≢false, arith, ◌≤◌}
+use Rattle.std.specs.Prelude.{slice_get, IfSome, IfNone, position}
 use Rattle.std.specs.Option.{is_some, option_map}
-use Rattle.std.specs.Map.{lookup, values_of}
+use Rattle.std.specs.Map.{lookup, keys_of, values_of}
 use Rattle.std.proofs.lemmas.Map.Entries.{place_from_lookup}
 use Rattle.std.proofs.lemmas.List.{map_push, length-map}
+use Rattle.std.proofs.lemmas.List.Quantifiers.{position-Some}
+use Rattle.std.proofs.lemmas.Option.{slice_get-get_or}
 use Rattle.std.proofs.lemmas.Slice.Eq.{slice_eq-Decides}
 use Rattle.std.proofs.lemmas.Bool.Decides.{Decides-eqb}
 use lib.Pointwise.{pointwise}
@@ -79,6 +81,21 @@ module _ {W : ℕ} where
       let alike : members b.0.0 ≡ members s = ap (λ (x : Visit). x.state) b.2 ∙ a.3 in
       let same : b.0.0 ≡ s = same_whole b.0.0 s (whole a.0 b.0 b.1) whole_s alike in
       true≢false (sym ((same_bits-Decides s b.0.0).1 (sym same)) ∙ missed_at (same_bits s) es none a.0 b.0 b.1)
+
+  -- the place that a look-up gives has the state, and where it gives none the state is not visited
+  pub place_found : (es : List (Bits W × Step)) (s : Bits W) (r : Option ℕ) → r ≡ position (same_bits s) (keys_of es)
+      → IfSome r (λ place. option_map (λ (v : Visit). v.state) (slice_get (visits es) place) ≡ Some (members s))
+  place_found es s None is = tt
+  place_found es s (Some place) is =
+      let p = position-Some (same_bits s) (keys_of es) place s (sym is) in
+      let e = at_of_map (λ (x : Bits W × Step). x.0) es place (get_or (keys_of es) place s) (slice_get-get_or (keys_of es) place s p.0) in
+      let same : s ≡ e.0.0 = (same_bits-Decides s e.0.0).0 (ap (same_bits s) e.2 ∙ p.1) in
+      ap (option_map (λ (v : Visit). v.state)) (map_at visit_of es place e.0 e.1) ∙ ap (λ (b : Bits W). Some (members b)) (sym same)
+
+  pub place_none : (es : List (Bits W × Step)) (s : Bits W) (r : Option ℕ) → AreWhole es → IsWhole s → is_some r ≡ is_some (lookup (same_bits s) es)
+      → IfNone r (HasState (visits es) (members s) → ⊥)
+  place_none es s None whole whole_s is = absent es s whole whole_s (sym is)
+  place_none es s (Some place) whole whole_s is = tt
 
   pub whole_pushed : (es : List (Bits W × Step)) (s : Bits W) (step : Step) → AreWhole es → IsWhole s → AreWhole (es ++ (s, step) ∷ [])
   whole_pushed es s step whole whole_s k e at = elim (pushed_cases es (s, step) e k at) [

@@ -46,10 +46,6 @@ HasWays vs = (path : ℕ → List ActionId) × AreWays path vs
 abbrev pub IsWay : List Visit → ℕ → List ActionId → Type 0
 IsWay vs place p = (path : ℕ → List ActionId) → AreWays path vs → p ≡ path place
 
--- the sequence is the path to the visit at the place, and one more action
-abbrev pub IsWayBy : List Visit → ℕ → ActionId → List ActionId → Type 0
-IsWayBy vs place last p = (path : ℕ → List ActionId) → AreWays path vs → p ≡ path place ++ last ∷ []
-
 -- the state is visited by a path of at most n steps
 pub record HasVisit (path : ℕ → List ActionId) (vs : List Visit) (u : State) (n : ℕ) : Type 0 where
   pub place : ℕ

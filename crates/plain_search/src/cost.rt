@@ -1,12 +1,37 @@
 ghost use Rattle.std.specs.Prelude.{◌≡◌, ◌<◌, ◌≤◌, [], length, map, All, IfSome, IfOk};
 ghost use Rattle.std.specs.Option.{option_map};
-ghost use Rattle.strips_model.specs.Common.{AreRight};
+ghost use Rattle.strips_model.specs.Common.{IsRight, AreRight};
 ghost use Rattle.strips_model.specs.Reached.{IsReachedFor, MoreThan};
 
 use crate::faults::GoalSearchFault;
+use crate::visited::WalkFault;
+use crate::walk::least_plan;
 use grd_base::{ActionId, GoalId};
 use std::alloc::Global;
 use strips_model::Task;
+
+/// An optimal plan of the goal, or none where it has no plan.
+fn plan_of(
+    alloc: Global,
+    task: &Task,
+    goal: GoalId,
+    limit: u32,
+) -> Result<Option<Vec<ActionId>>, GoalSearchFault>
+    requires goal { goal.0 < length task.now.goals }
+    requires limit { 1 ≤ limit }
+    ensures right { IfOk result
+        (λ found. IsRight task.now goal [] (option_map (λ plan. plan.items) found)) }
+    ensures in_range { IfOk result
+        (λ found. IfSome found (λ plan. All (λ a. a.0 < length task.now.actions) plan.items)) }
+    ensures many { (g : GoalId) → result ≡ Err (GoalSearchFault.TooManyStates g)
+        → (g.0 < length task.now.goals) × MoreThan limit (IsReachedFor task.now g) }
+{
+    match least_plan(alloc, task, goal, limit) {
+        Ok(found) => Ok(found),
+        Err(WalkFault::TooManyStates) => Err(GoalSearchFault::TooManyStates(goal)),
+        Err(WalkFault::OutOfMemory) => Err(GoalSearchFault::OutOfMemory),
+    }
+}
 
 /// An optimal plan of each goal, in the order of the goals, or none where it has no plan. At most
 /// `limit` states are kept for each goal.
@@ -23,8 +48,9 @@ pub fn costs(
     ensures many { (g : GoalId) → result ≡ Err (GoalSearchFault.TooManyStates g)
         → (g.0 < length task.now.goals) × MoreThan limit (IsReachedFor task.now g) }
 {
-    let _task = task;
-    let _alloc = alloc;
-    let _limit = limit;
-    Err(GoalSearchFault::OutOfMemory)
+    let mut found = Vec::new(alloc);
+    for i in 0..task.goals.len() {
+        found.push(plan_of(alloc, task, GoalId(i as u32), limit)?)?;
+    }
+    Ok(found)
 }

@@ -1,4 +1,5 @@
 use grd_base::GoalId;
+use std::alloc::{AllocError, AllocFailed};
 use thiserror::Error;
 
 /// Why there is no answer over the goals of a task.
@@ -9,4 +10,26 @@ pub enum GoalSearchFault {
     TooManyStates(GoalId),
     #[error("out of memory")]
     OutOfMemory,
+}
+
+impl From<AllocError> for GoalSearchFault {
+    ghost use Rattle.std.specs.Prelude.{◌≡◌};
+    ghost use Rattle.plain_search.specs.declared.faults.GoalSearchFault.TheVariants.{OutOfMemory};
+
+    ghost from_gives = { λ _ fault. fault ≡ OutOfMemory };
+
+    fn from(_error: AllocError) -> GoalSearchFault {
+        GoalSearchFault::OutOfMemory
+    }
+}
+
+impl<T: Drop> From<AllocFailed<T>> for GoalSearchFault {
+    ghost use Rattle.std.specs.Prelude.{◌≡◌};
+    ghost use Rattle.plain_search.specs.declared.faults.GoalSearchFault.TheVariants.{OutOfMemory};
+
+    ghost from_gives = { λ _ fault. fault ≡ OutOfMemory };
+
+    fn from(_error: AllocFailed<T>) -> GoalSearchFault {
+        GoalSearchFault::OutOfMemory
+    }
 }

@@ -11,3 +11,6 @@ mod walk;
 pub use common::wcd;
 pub use cost::costs;
 pub use faults::GoalSearchFault;
+
+#[cfg(test)]
+mod tests;

@@ -1,7 +1,7 @@
 ghost use Rattle.std.specs.Prelude.{◌≡◌, ◌<◌, ◌≤◌, [], length, slice_get, IfOk, OnOk, IfSome, IfNone};
 ghost use Rattle.std.specs.Option.{option_map};
 ghost use Rattle.grd_base.specs.Bits.{members};
-ghost use Rattle.plain_search.specs.Walks.{visit_of, visits, HasState, IsNoted, HasWays, IsWay, IsWayBy};
+ghost use Rattle.plain_search.specs.Walks.{visit_of, visits, HasState, IsNoted, HasWays, IsWay};
 
 use grd_base::{ActionId, Bits, whole};
 use indexmap::IndexMap;
@@ -57,7 +57,7 @@ pub(crate) struct Visited<const W: usize> {
 }
 
 impl<const W: usize> Model for Visited<W> {
-    ghost use Rattle.std.specs.Prelude.{List};
+    ghost use Rattle.std.specs.Prelude.{List, ◌≤◌};
     ghost use Rattle.grd_base.specs.declared.bits.Bits.{Bits};
     ghost use Rattle.plain_search.specs.declared.visited.Step.{Step};
     ghost use Rattle.plain_search.specs.Walks.{AreWhole};
@@ -66,7 +66,8 @@ impl<const W: usize> Model for Visited<W> {
 
     ghost view = { λ v. v.steps.entries };
 
-    ghost invariant = { λ v. AreWhole v.steps.entries };
+    // The width is what it takes to let the states go.
+    ghost invariant = { λ v. AreWhole v.steps.entries × (W ≤ 64) };
 }
 
 impl<const W: usize> Visited<W> {
@@ -78,6 +79,13 @@ impl<const W: usize> Visited<W> {
         Visited {
             steps: IndexMap::new(alloc),
         }
+    }
+
+    /// How many states are visited.
+    pub(crate) fn len(&self) -> usize
+        ensures { result ≡ length self.now }
+    {
+        self.steps.len()
     }
 
     /// The state at a place.
@@ -130,33 +138,14 @@ impl<const W: usize> Visited<W> {
         ensures way { IfOk result (λ way. IsWay (visits self.now) place way.items) }
         ensures many { result ≡ Err WalkFault.TooManyStates → ⊥ }
     {
-        let _alloc = alloc;
-        let _place = place;
-        Err(WalkFault::OutOfMemory)
-    }
-
-    /// The actions on the way from the first state to the one at a place, and one more.
-    pub(crate) fn plan_to(
-        &self,
-        alloc: Global,
-        place: usize,
-        last: ActionId,
-    ) -> Result<Vec<ActionId>, WalkFault>
-        requires width { W ≤ 64 }
-        requires place { place < length self.now }
-        requires ways { HasWays (visits self.now) }
-        ensures plan { IfOk result (λ plan. IsWayBy (visits self.now) place last plan.items) }
-        ensures many { result ≡ Err WalkFault.TooManyStates → ⊥ }
-    {
-        let mut plan = Vec::new(alloc);
-        plan.push(last)?;
+        let mut way = Vec::new(alloc);
         let mut at = place;
         while at > 0 {
             let step = self.steps[at];
-            plan.push(step.action)?;
+            way.push(step.action)?;
             at = step.parent;
         }
-        plan.reverse();
-        Ok(plan)
+        way.reverse();
+        Ok(way)
     }
 }

@@ -4,6 +4,7 @@ ghost use Rattle.grd_base.specs.Bits.{members};
 ghost use Rattle.strips_model.specs.Plans.{step, IsCost, IsOptimal};
 ghost use Rattle.strips_model.specs.Reached.{IsReachedFor, MoreThan};
 ghost use Rattle.plain_search.specs.Walks.{visits, IsExpanded, Expands, LeadsToGoal};
+ghost use Rattle.plain_search.specs.Depths.{IsBegun};
 
 use crate::visited::{Step, Visited, WalkFault};
 use grd_base::{ActionId, Bits, GoalId};
@@ -11,7 +12,7 @@ use std::alloc::Global;
 use strips_model::{Task, applies, apply_in, holds, start};
 
 /// The state after one step, if the action applies.
-fn advance<const W: usize>(task: &Task, s: &Bits<W>, a: ActionId) -> Option<Bits<W>>
+pub(crate) fn advance<const W: usize>(task: &Task, s: &Bits<W>, a: ActionId) -> Option<Bits<W>>
     requires width { W ≤ 64 }
     requires atoms { task.now.atoms ≤ 64 * W }
     requires action { a.0 < length task.now.actions }
@@ -113,7 +114,8 @@ fn explore<const W: usize>(
     let mut head = 0;
     while let Some(from) = visited.state(head) {
         if let Some(last) = expand(task, goal, &mut visited, head, &from, limit)? {
-            let plan = visited.plan_to(alloc, head, last)?;
+            let mut plan = visited.way_to(alloc, head)?;
+            plan.push(last)?;
             return Ok(Some(plan));
         }
         head += 1;
@@ -126,6 +128,28 @@ fn fits(task: &Task)
     ensures { task.now.atoms ≤ 64 * 64 }
 {
     let _atoms = task.atoms;
+}
+
+/// Visits the start alone.
+pub(crate) fn begin<const W: usize>(
+    alloc: Global,
+    task: &Task,
+    limit: u32,
+) -> Result<Visited<W>, WalkFault>
+    requires width { W ≤ 64 }
+    requires atoms { task.now.atoms ≤ 64 * W }
+    requires limit { 1 ≤ limit }
+    ensures begun { IfOk result (λ visited. IsBegun task.now (visits visited)) }
+    ensures many { result ≡ Err WalkFault.TooManyStates → ⊥ }
+{
+    let mut visited = Visited::new(alloc);
+    // No step led to the start.
+    let unread = Step {
+        parent: 0,
+        action: ActionId(0),
+    };
+    visited.note(start(task), unread, limit)?;
+    Ok(visited)
 }
 
 /// A shortest plan of the goal, or none where there is no plan. It visits the reached states in
@@ -150,12 +174,6 @@ pub(crate) fn least_plan(
     if holds(task, &first, goal) {
         return Ok(Some(Vec::new(alloc)));
     }
-    let mut visited = Visited::new(alloc);
-    // No step led to the start.
-    let unread = Step {
-        parent: 0,
-        action: ActionId(0),
-    };
-    visited.note(first, unread, limit)?;
+    let visited = begin::<64>(alloc, task, limit)?;
     explore(alloc, task, goal, visited, limit)
 }

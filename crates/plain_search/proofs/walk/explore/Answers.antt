@@ -15,8 +15,8 @@ expand-requires g c =
     record { walk = c.loop-from.invariant.walk; few = c.loop-from.invariant.few; visit = there.0; here = there.1; state = there.2 } in
     (search rules, (search rules, (c.requires.width, (c.requires.atoms, (c.requires.goal, expands)))))
 
-pub plan_to-requires : goal.plan_to-requires
-plan_to-requires g c =
+pub way_to-requires : goal.way_to-requires
+way_to-requires g c =
     let led = if_some c.in_ok-last.field-0 _ c.in-Some-2.last c.in_ok-last.ensures.led c.in-Some-2.is in
     let within : c.loop-from.head < length (visits c.expand.new.visited) = slice_get_within (visits c.expand.new.visited) c.loop-from.head led.0.visit led.0.here in
     (search rules, (c.requires.width, (omega (arith, length-visits c.expand.new.visited), (led.0.walk.path, led.0.walk.ways))))
@@ -24,8 +24,8 @@ plan_to-requires g c =
 pub returns-in-Some-2-clause-least : goal.returns-in-Some-2-clause-least
 returns-in-Some-2-clause-least g c =
     let led = if_some c.in_ok-last.field-0 _ c.in-Some-2.last c.in_ok-last.ensures.led c.in-Some-2.is in
-    led_least c.args.task.now c.args.goal c.args.limit c.loop-from.head (members c.in-Some.from) c.in-Some-2.last (visits c.expand.new.visited) led.0 led.1 _
-    (c.in_ok-plan.ensures.plan led.0.walk.path led.0.walk.ways)
+    led_least c.args.task.now c.args.goal c.args.limit c.loop-from.head (members c.in-Some.from) c.in-Some-2.last (visits c.expand.new.visited) led.0 led.1 _ _
+    (c.in_ok-plan.ensures.way led.0.walk.path led.0.walk.ways) c.in_ok-push.ensures.items
 
 pub overflow_add-head : goal.overflow_add-head
 overflow_add-head g c =

@@ -1,7 +1,6 @@
-use Rattle.std.proofs.Common.{sym, ◌∙◌, ap, arith, rules}
+use Rattle.std.proofs.Common.{sym, ◌∙◌, ap, rules}
 use Rattle.strips_model.specs.Plans.{goal_holds}
 use Rattle.plain_search.specs.Walks.{visits, IsExpanded}
-use Rattle.plain_search.proofs.WalkStateLemmas.{length-visits}
 use Rattle.plain_search.proofs.WalkPlanLemmas.{in_range, at_start}
 use Rattle.plain_search.proofs.WalkLemmas.{begins}
 use Rattle.plain_search.proofs.walk.least_plan.Goals as goal
@@ -12,10 +11,9 @@ returns-then-holds-clause-least c =
 
 pub explore-requires : goal.explore-requires
 explore-requires c =
-    let expanded : IsExpanded c.args.task.now c.args.goal c.args.limit 0 (visits c.note.new.self) =
-    begins c.args.task.now c.args.goal c.args.limit (visits c.note.new.self) _ (rw c.new-visited.ensures at c.in_ok-note.ensures.noted) c.start-first.ensures
-    (ap (goal_holds c.args.task.now c.args.goal) (sym c.start-first.ensures) ∙ sym c.holds.ensures ∙ c.if-holds.false)
-    (omega (arith, length-visits c.note.new.self, c.in_ok-note.ensures.few)) in
+    let expanded : IsExpanded c.args.task.now c.args.goal c.args.limit 0 (visits c.in_ok-visited.visited) =
+    begins c.args.task.now c.args.goal c.args.limit (visits c.in_ok-visited.visited) c.in_ok-visited.ensures.begun
+    (ap (goal_holds c.args.task.now c.args.goal) (sym c.start-first.ensures) ∙ sym c.holds.ensures ∙ c.if-holds.false) c.requires.limit in
     (search rules, (search rules, (search rules, (c.requires.goal, expanded))))
 
 pub returns-clause-in_range : goal.returns-clause-in_range

@@ -13,14 +13,14 @@ pub returns-then-len-limit-clause-many : goal.returns-then-len-limit-clause-many
 returns-then-len-limit-clause-many g c _ =
     let whole : IsWhole c.args.state = c.whole.ensures in
     let same : length c.self.inside.steps.entries ≡ length c.args.self.now = ap length c.self.view_is in
-    (omega arith, rw (← c.self.view_is) (absent c.self.inside.steps.entries c.args.state c.self.invariant whole (sym c.contains_key.ensures ∙ c.if-contains_key.false)))
+    (omega arith, rw (← c.self.view_is) (absent c.self.inside.steps.entries c.args.state c.self.invariant.0 whole (sym c.contains_key.ensures ∙ c.if-contains_key.false)))
 
 pub invariant_of-self-2 : goal.invariant_of-self-2
 invariant_of-self-2 g c =
     let whole : IsWhole c.args.state = c.whole.ensures in
     let none : is_some (lookup (same_bits c.args.state) c.self.inside.steps.entries) ≡ false = sym c.contains_key.ensures ∙ c.if-contains_key.false in
     rw (c.in_ok-insert.ensures.entries ∙ insert_entry-new same_bits c.self.inside.steps c.args.state c.args.step (none_of _ none))
-    (whole_pushed c.self.inside.steps.entries c.args.state c.args.step c.self.invariant whole)
+    (whole_pushed c.self.inside.steps.entries c.args.state c.args.step c.self.invariant.0 whole, c.requires.width)
 
 pub returns-clause-noted : goal.returns-clause-noted
 returns-clause-noted g c =
@@ -28,5 +28,5 @@ returns-clause-noted g c =
     let none : is_some (lookup (same_bits c.args.state) c.self.inside.steps.entries) ≡ false = sym c.contains_key.ensures ∙ c.if-contains_key.false in
     rw (← c.self.view_is)
     (noted_new c.self.inside.steps.entries c.insert.new.self.entries c.args.state c.args.step
-    (absent c.self.inside.steps.entries c.args.state c.self.invariant whole none)
+    (absent c.self.inside.steps.entries c.args.state c.self.invariant.0 whole none)
     (c.in_ok-insert.ensures.entries ∙ insert_entry-new same_bits c.self.inside.steps c.args.state c.args.step (none_of _ none)))

@@ -1,0 +1,114 @@
+ghost use Rattle.std.specs.Prelude.{◌≡◌, ◌<◌, IfOk, length, [], ◌∷◌, false};
+
+use super::*;
+use crate::layers::layers_within;
+use crate::visited::WalkFault;
+use grd_base::{ActionId, AtomId, GoalId};
+use std::alloc::Global;
+use std::test::Fail;
+use strips_model::{Action, Condition, Task};
+
+// The action from one place to another: it needs and deletes the one atom, and adds the other.
+fn from_to(alloc: Global, p: u32, q: u32) -> Result<Action, Fail>
+    ensures { IfOk result (λ a. a ≡ (record {
+      pre = (record { 0 = p }) ∷ [];
+      add = (record { 0 = q }) ∷ [];
+      del = (record { 0 = p }) ∷ [];
+      blocked = false;
+    })) }
+{
+    Ok(Action {
+        pre: vec![in alloc; AtomId(p)]?,
+        add: vec![in alloc; AtomId(q)]?,
+        del: vec![in alloc; AtomId(p)]?,
+        blocked: false,
+    })
+}
+
+fn only(alloc: Global, p: u32) -> Result<Condition, Fail>
+    ensures { IfOk result (λ g. g ≡ (record {
+      atoms = (record { 0 = p }) ∷ [];
+      blocked = false;
+    })) }
+{
+    Ok(Condition {
+        atoms: vec![in alloc; AtomId(p)]?,
+        blocked: false,
+    })
+}
+
+// Fork: from atom 0 by (a) to 1, by (b) to 2, and from there by (l) to 3 or by (r) to 4. Nothing
+// leads to atom 5. Its goals are the two atoms.
+fn fork(alloc: Global, first: u32, second: u32) -> Result<Task, Fail>
+    requires first { first < 6 }
+    requires second { second < 6 }
+    ensures { IfOk result (λ t. t.atoms ≡ 6) }
+{
+    let a = from_to(alloc, 0, 1)?;
+    let b = from_to(alloc, 1, 2)?;
+    let l = from_to(alloc, 2, 3)?;
+    let r = from_to(alloc, 2, 4)?;
+    let first = only(alloc, first)?;
+    let second = only(alloc, second)?;
+    Ok(Task {
+        atoms: 6,
+        init: vec![in alloc; AtomId(0)]?,
+        actions: vec![in alloc; a, b, l, r]?,
+        goals: vec![in alloc; first, second]?,
+    })
+}
+
+const A: ActionId = ActionId(0);
+
+const B: ActionId = ActionId(1);
+
+const L: ActionId = ActionId(2);
+
+const R: ActionId = ActionId(3);
+
+fn is_plan(found: Option<&Option<Vec<ActionId>>>, plan: &[ActionId]) -> bool {
+    match found {
+        Some(Some(found)) => found.as_slice() == plan,
+        _ => false,
+    }
+}
+
+#[test]
+fn each_goal_of_fork_has_its_plan(rt: HostRuntime) -> Result<(), Fail> {
+    let task = fork(rt.alloc(), 3, 4)?;
+    let found = costs(rt.alloc(), &task, 4).map_err(|_| "no plans")?;
+    assert_eq!(rt; found.len(), 2);
+    assert!(rt; is_plan(found.get(0), &[A, B, L]) && is_plan(found.get(1), &[A, B, R]));
+    Ok(())
+}
+
+#[test]
+fn a_goal_that_holds_at_the_start_needs_no_action(rt: HostRuntime) -> Result<(), Fail> {
+    let task = fork(rt.alloc(), 0, 5)?;
+    let found = costs(rt.alloc(), &task, 5).map_err(|_| "no plans")?;
+    assert!(rt; is_plan(found.get(0), &[]) && matches!(found.get(1), Some(None)));
+    Ok(())
+}
+
+#[test]
+fn the_goal_that_meets_the_limit_is_told(rt: HostRuntime) -> Result<(), Fail> {
+    for (first, second, limit, goal) in [(3, 4, 2, 0), (1, 4, 2, 1), (0, 5, 4, 1)] {
+        let task = fork(rt.alloc(), first, second)?;
+        let fault = costs(rt.alloc(), &task, limit).err();
+        let want = Some(GoalSearchFault::TooManyStates(GoalId(goal)));
+        assert_eq!(rt; fault, want, "goals {first} and {second}, {limit} states");
+    }
+    Ok(())
+}
+
+#[test]
+fn layers_end_at_the_steps(rt: HostRuntime) -> Result<(), Fail> {
+    let task = fork(rt.alloc(), 3, 4)?;
+    let near = layers_within::<1>(rt.alloc(), &task, 2, 3).map_err(|_| "no layers")?;
+    assert!(rt; near.depths.as_slice() == [0, 1, 2].as_slice());
+    let all = layers_within::<1>(rt.alloc(), &task, 9, 5).map_err(|_| "no layers")?;
+    assert!(rt; all.depths.as_slice() == [0, 1, 2, 3, 3].as_slice());
+    let many = layers_within::<1>(rt.alloc(), &task, 3, 4).err();
+    assert_eq!(rt; many, Some(WalkFault::TooManyStates));
+    Ok(())
+}
