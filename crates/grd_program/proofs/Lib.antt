@@ -4,3 +4,7 @@ pub mod CompleteLemmas
 pub mod NameLemmas
 pub mod AtomLemmas
 pub mod WorldLemmas
+pub mod WordsTable
+pub mod WordsItems
+pub mod WordsGiven
+pub mod WordsOnce

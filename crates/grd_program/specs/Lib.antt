@@ -1,6 +1,7 @@
 pub mod Statuses
 pub mod Errors
 pub mod Commands
+pub mod Words
 pub mod Worlds
 pub mod Names
 pub mod Reports

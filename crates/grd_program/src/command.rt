@@ -16,9 +16,23 @@ pub enum OptionName {
     MaxStates,
 }
 
+/// All commands.
+const COMMANDS: [Command; 2] = [Command::Cost, Command::Wcd];
+
 impl Command {
-    ghost use Rattle.std.specs.Prelude.{◌≡◌};
+    ghost use Rattle.std.specs.Prelude.{◌≡◌, ◌≢◌, MatchOption};
     ghost use Rattle.grd_program.specs.Commands.{command_text, required_of, optional_of};
+
+    /// The command whose word this is.
+    pub(crate) fn named(word: &str) -> Option<Command>
+        ensures { MatchOption result ((command : Command) → word.now ≢ command_text command)
+            (λ command. word.now ≡ command_text command) }
+    {
+        COMMANDS
+            .iter()
+            .copied()
+            .find(|command| command.name() == word)
+    }
 
     /// The word of the command.
     pub(crate) fn name(self) -> &'static str

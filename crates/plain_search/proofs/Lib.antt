@@ -3,3 +3,7 @@ pub mod WalkStateLemmas
 pub mod WalkPlanLemmas
 pub mod WalkLemmas
 pub mod LayerLemmas
+pub mod LiveLemmas
+pub mod CommonLemmas
+pub mod CompletionLemmas
+pub mod WitnessLemmas

@@ -1,4 +1,4 @@
-use grd_base::GoalId;
+use grd_base::{GoalId, OutOfMemory};
 use std::alloc::{AllocError, AllocFailed};
 use thiserror::Error;
 
@@ -30,6 +30,17 @@ impl<T: Drop> From<AllocFailed<T>> for GoalSearchFault {
     ghost from_gives = { λ _ fault. fault ≡ OutOfMemory };
 
     fn from(_error: AllocFailed<T>) -> GoalSearchFault {
+        GoalSearchFault::OutOfMemory
+    }
+}
+
+impl From<OutOfMemory> for GoalSearchFault {
+    ghost use Rattle.std.specs.Prelude.{◌≡◌};
+    ghost use Rattle.plain_search.specs.declared.faults.GoalSearchFault.TheVariants.{OutOfMemory};
+
+    ghost from_gives = { λ _ fault. fault ≡ OutOfMemory };
+
+    fn from(_error: OutOfMemory) -> GoalSearchFault {
         GoalSearchFault::OutOfMemory
     }
 }

@@ -2,9 +2,11 @@
 #![tactic(auto)]
 
 mod common;
+mod completion;
 mod cost;
 mod faults;
 mod layers;
+mod live;
 mod visited;
 mod walk;
 
@@ -12,5 +14,7 @@ pub use common::wcd;
 pub use cost::costs;
 pub use faults::GoalSearchFault;
 
+#[cfg(test)]
+mod common_tests;
 #[cfg(test)]
 mod tests;

@@ -9,7 +9,7 @@ use std::test::Fail;
 use strips_model::{Action, Condition, Task};
 
 // The action from one place to another: it needs and deletes the one atom, and adds the other.
-fn from_to(alloc: Global, p: u32, q: u32) -> Result<Action, Fail>
+pub(crate) fn from_to(alloc: Global, p: u32, q: u32) -> Result<Action, Fail>
     ensures { IfOk result (λ a. a ≡ (record {
       pre = (record { 0 = p }) ∷ [];
       add = (record { 0 = q }) ∷ [];
@@ -25,7 +25,7 @@ fn from_to(alloc: Global, p: u32, q: u32) -> Result<Action, Fail>
     })
 }
 
-fn only(alloc: Global, p: u32) -> Result<Condition, Fail>
+pub(crate) fn only(alloc: Global, p: u32) -> Result<Condition, Fail>
     ensures { IfOk result (λ g. g ≡ (record {
       atoms = (record { 0 = p }) ∷ [];
       blocked = false;
@@ -39,7 +39,7 @@ fn only(alloc: Global, p: u32) -> Result<Condition, Fail>
 
 // Fork: from atom 0 by (a) to 1, by (b) to 2, and from there by (l) to 3 or by (r) to 4. Nothing
 // leads to atom 5. Its goals are the two atoms.
-fn fork(alloc: Global, first: u32, second: u32) -> Result<Task, Fail>
+pub(crate) fn fork(alloc: Global, first: u32, second: u32) -> Result<Task, Fail>
     requires first { first < 6 }
     requires second { second < 6 }
     ensures { IfOk result (λ t. t.atoms ≡ 6) }
@@ -58,13 +58,13 @@ fn fork(alloc: Global, first: u32, second: u32) -> Result<Task, Fail>
     })
 }
 
-const A: ActionId = ActionId(0);
+pub(crate) const A: ActionId = ActionId(0);
 
-const B: ActionId = ActionId(1);
+pub(crate) const B: ActionId = ActionId(1);
 
-const L: ActionId = ActionId(2);
+pub(crate) const L: ActionId = ActionId(2);
 
-const R: ActionId = ActionId(3);
+pub(crate) const R: ActionId = ActionId(3);
 
 fn is_plan(found: Option<&Option<Vec<ActionId>>>, plan: &[ActionId]) -> bool {
     match found {

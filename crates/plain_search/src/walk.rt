@@ -124,7 +124,7 @@ fn explore<const W: usize>(
 }
 
 /// A task has at most 4,096 atoms.
-fn fits(task: &Task)
+pub(crate) fn fits(task: &Task)
     ensures { task.now.atoms ≤ 64 * 64 }
 {
     let _atoms = task.atoms;
