@@ -10,6 +10,8 @@ mod names;
 mod report;
 mod run;
 mod status;
+#[cfg(test)]
+mod tests;
 mod words;
 mod world;
 

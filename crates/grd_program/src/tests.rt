@@ -1,0 +1,536 @@
+ghost use Rattle.std.specs.Prelude.{◌≡◌, IfOk, string_bytes};
+
+use crate::run::run;
+use crate::status::Status;
+use grd_io::{MemoryShelf, MemorySink};
+use std::alloc::{AllocError, Global};
+use std::process::Abort;
+use std::str;
+use std::test::Fail;
+
+/// The texts of the three files.
+#[derive(Clone, Copy)]
+struct Texts<'a> {
+    domain: &'a str,
+    problem: &'a str,
+    goals: &'a str,
+}
+
+/// The numbers of the calls that fail, from 1. With 0 none does.
+#[derive(Clone, Copy)]
+struct Failing {
+    shelf: u64,
+    out: u64,
+    err: u64,
+}
+
+const WHOLE: Failing = Failing {
+    shelf: 0,
+    out: 0,
+    err: 0,
+};
+
+/// How a run ended, and what it wrote.
+#[derive(Drop)]
+struct Outcome {
+    status: Status,
+    out: String,
+    err: String,
+}
+
+/// The words of a line. Each space ends a word, so that two spaces have an empty word between them.
+fn words_of(alloc: Global, line: &str) -> Result<Vec<String>, AllocError> {
+    let mut words = Vec::new(alloc);
+    for word in line.split_terminator(' ') {
+        words.push(String::from_str(alloc, word)?)?;
+    }
+    Ok(words)
+}
+
+fn file(alloc: Global, name: &str, text: &str) -> Result<(String, Vec<u8>), AllocError>
+    ensures { IfOk result (λ file. string_bytes file.0 ≡ name.now) }
+{
+    Ok((
+        String::from_str(alloc, name)?,
+        Vec::from_slice(alloc, text.as_bytes())?,
+    ))
+}
+
+/// Runs words over a shelf.
+fn run_over(
+    alloc: Global,
+    words: &str,
+    mut shelf: MemoryShelf,
+    failing: Failing,
+) -> Result<Outcome, Fail> {
+    let words = words_of(alloc, words)?;
+    let mut out = MemorySink::new(alloc, vec![in alloc; failing.out]?);
+    let mut err = MemorySink::new(alloc, vec![in alloc; failing.err]?);
+    let status = run(alloc, &words, &mut shelf, &mut out, &mut err);
+    Ok(Outcome {
+        status,
+        out: String::from_str(alloc, str::from_utf8(out.written())?)?,
+        err: String::from_str(alloc, str::from_utf8(err.written())?)?,
+    })
+}
+
+/// Runs words over a shelf without files.
+fn run_without_files(alloc: Global, words: &str) -> Result<Outcome, Fail> {
+    let shelf = MemoryShelf::new(alloc, Vec::new(alloc), Vec::new(alloc));
+    run_over(alloc, words, shelf, WHOLE)
+}
+
+/// Runs words over the files d, p and g.
+fn run_on(alloc: Global, words: &str, texts: Texts<'_>, failing: Failing) -> Result<Outcome, Fail> {
+    let files = vec![in alloc;
+        file(alloc, "d", texts.domain)?,
+        file(alloc, "p", texts.problem)?,
+        file(alloc, "g", texts.goals)?,
+    ]?;
+    let shelf = MemoryShelf::new(alloc, files, vec![in alloc; failing.shelf]?);
+    run_over(alloc, words, shelf, failing)
+}
+
+/// The run of these words ended with the code, and wrote these texts.
+fn expect(rt: &impl Abort, words: &str, outcome: &Outcome, code: u8, out: &str, err: &str) {
+    assert_eq!(rt; outcome.out.as_str(), out, "{words}");
+    assert_eq!(rt; outcome.err.as_str(), err, "{words}");
+    assert_eq!(rt; outcome.status.code(), code, "{words}");
+}
+
+const COST: &str = "cost --domain d --problem p --goals g";
+
+const WCD: &str = "wcd --domain d --problem p --goals g";
+
+const FORK: &str = "(define (domain fork)
+(:predicates (at0) (at1) (at2) (atl) (atr))
+(:action a :parameters () :precondition (at0) :effect (and (at1) (not (at0))))
+(:action b :parameters () :precondition (at1) :effect (and (at2) (not (at1))))
+(:action l :parameters () :precondition (at2) :effect (and (atl) (not (at2))))
+(:action r :parameters () :precondition (at2) :effect (and (atr) (not (at2)))))";
+
+const FORK_START: &str =
+    "(define (problem p) (:domain fork) (:init (at0)) (:goal (and <HYPOTHESIS>)))";
+
+/// Fork with these goals.
+fn fork(goals: &str) -> Texts<'_> {
+    Texts {
+        domain: FORK,
+        problem: FORK_START,
+        goals,
+    }
+}
+
+const KEEP: &str = "; upper case, tabs and carriage returns\r
+(DEFINE\t(domain K)\r
+(:predicates (p) (q)) ; (r)\r
+(:action T :parameters () :precondition (p) :effect (and (q) (not (p)) (p))))";
+
+const KEEP_START: &str = "(define (problem z) (:domain k) (:init (P)) (:goal (and <hypothesis>)))";
+
+/// Two steps up, or one jump, whose action comes last.
+const LADDER: &str = "(define (domain ladder) (:predicates (low) (middle) (high))
+(:action climb :parameters () :precondition (low) :effect (and (middle) (not (low))))
+(:action reach :parameters () :precondition (middle) :effect (and (high) (not (middle))))
+(:action jump :parameters () :precondition (and (low)) :effect (and (high) (not (low)))))";
+
+const LADDER_START: &str =
+    "(define (problem p) (:domain ladder) (:init (low)) (:goal (and <hypothesis>)))";
+
+/// A door that is open and one that is shut, neither of which any action changes.
+const DOORS: &str = "(define (domain doors)
+(:predicates (open) (shut) (outside) (inside))
+(:action break :parameters () :precondition (and (outside) (shut)) :effect (inside))
+(:action enter :parameters () :precondition (and (open) (outside))
+:effect (and (inside) (not (outside)) (inside))))";
+
+const DOORS_START: &str = "(define (problem p) (:domain doors) (:init (outside) (open) (outside))
+(:goal (and <hypothesis>)))";
+
+#[test]
+fn costs_and_plans_are_printed(rt: HostRuntime) -> Result<(), Fail> {
+    for (domain, problem, goals, report) in [
+        (
+            FORK,
+            FORK_START,
+            "(atl)",
+            "goals 1\ngoal 1 cost 3 (a) (b) (l)\n",
+        ),
+        (
+            FORK,
+            FORK_START,
+            "(atr)\n; at the start\n(AT0)\r\n\r\n(at0), (atl)\n(at2)",
+            "goals 4\ngoal 1 cost 3 (a) (b) (r)\ngoal 2 cost 0\ngoal 3 cost none\ngoal 4 cost 2 (a) (b)\n",
+        ),
+        (KEEP, KEEP_START, "(p), (q)", "goals 1\ngoal 1 cost 1 (t)\n"),
+        (
+            LADDER,
+            LADDER_START,
+            "(high)",
+            "goals 1\ngoal 1 cost 1 (jump)\n",
+        ),
+        (
+            DOORS,
+            DOORS_START,
+            "(inside)(inside)\n(open) (inside)\n(shut) (inside)",
+            "goals 3\ngoal 1 cost 1 (enter)\ngoal 2 cost 1 (enter)\ngoal 3 cost none\n",
+        ),
+    ] {
+        let texts = Texts {
+            domain,
+            problem,
+            goals,
+        };
+        let outcome = run_on(rt.alloc(), COST, texts, WHOLE)?;
+        expect(&rt, goals, &outcome, 0, report, "");
+    }
+    Ok(())
+}
+
+#[test]
+fn longest_common_sequences_are_printed(rt: HostRuntime) -> Result<(), Fail> {
+    for (goals, report) in [
+        (
+            "(atl)\n(atr)\n",
+            "goals 2\ngoal 1 cost 3 (a) (b) (l)\ngoal 2 cost 3 (a) (b) (r)\n\
+            wcd 2 goals 1 2\nprefix (a) (b)\nplan 1 (a) (b) (l)\nplan 2 (a) (b) (r)\n",
+        ),
+        (
+            "(atl)\n(atl)\n",
+            "goals 2\ngoal 1 cost 3 (a) (b) (l)\ngoal 2 cost 3 (a) (b) (l)\n\
+            wcd 3 goals 1 2\nprefix (a) (b) (l)\nplan 1 (a) (b) (l)\nplan 2 (a) (b) (l)\n",
+        ),
+        (
+            "(at0)\n(atl)\n",
+            "goals 2\ngoal 1 cost 0\ngoal 2 cost 3 (a) (b) (l)\n\
+            wcd 0 goals 1 2\nprefix\nplan 1\nplan 2 (a) (b) (l)\n",
+        ),
+        (
+            "(atl)\n(at0), (atl)\n",
+            "goals 2\ngoal 1 cost 3 (a) (b) (l)\ngoal 2 cost none\nwcd none\n",
+        ),
+        ("(at1)\n", "goals 1\ngoal 1 cost 1 (a)\nwcd none\n"),
+        (
+            "(at0)\n(atl)\n(atr)\n",
+            "goals 3\ngoal 1 cost 0\ngoal 2 cost 3 (a) (b) (l)\ngoal 3 cost 3 (a) (b) (r)\n\
+            wcd 2 goals 2 3\nprefix (a) (b)\nplan 2 (a) (b) (l)\nplan 3 (a) (b) (r)\n",
+        ),
+    ] {
+        let outcome = run_on(rt.alloc(), WCD, fork(goals), WHOLE)?;
+        expect(&rt, goals, &outcome, 0, report, "");
+    }
+    Ok(())
+}
+
+/// So many lines with the same goal.
+fn equal_goals(alloc: Global, count: usize) -> Result<String, AllocError> {
+    let mut goals = String::new(alloc);
+    for _ in 0..count {
+        goals.push_str("(atl)\n")?;
+    }
+    Ok(goals)
+}
+
+#[test]
+fn goals_are_at_most_32(rt: HostRuntime) -> Result<(), Fail> {
+    let goals = equal_goals(rt.alloc(), 32)?;
+    let outcome = run_on(rt.alloc(), WCD, fork(goals.as_str()), WHOLE)?;
+    assert_eq!(rt; outcome.status, Status::Done);
+    // Which two of the goals are named is not promised.
+    assert!(rt;
+        outcome
+            .out
+            .as_str()
+            .starts_with("goals 32\ngoal 1 cost 3 (a) (b) (l)\n")
+    );
+    assert!(rt; outcome.out.as_str().contains("\nwcd 3 goals "));
+    let goals = equal_goals(rt.alloc(), 33)?;
+    let outcome = run_on(rt.alloc(), WCD, fork(goals.as_str()), WHOLE)?;
+    expect(
+        &rt,
+        WCD,
+        &outcome,
+        1,
+        "",
+        "grd: goals: 33 goals, limit 32\n",
+    );
+    Ok(())
+}
+
+#[test]
+fn first_fault_of_the_words_is_told(rt: HostRuntime) -> Result<(), Fail> {
+    for (words, fault) in [
+        ("", "no command"),
+        ("solve --domain d", "unknown command"),
+        ("--help", "unknown command"),
+        ("COST --domain d", "unknown command"),
+        ("cost --help", "word 2"),
+        ("wcd --", "word 2"),
+        ("cost --domain d --version --problem p", "word 4"),
+        ("cost stray --domain d", "word 2"),
+        ("cost --domain d stray", "word 4"),
+        ("cost --DOMAIN d", "word 2"),
+        ("cost --budget 1 --domain d", "word 2"),
+        ("wcd --budget=1", "word 2"),
+        ("cost --domain", "word 2"),
+        ("cost --domain=d --problem", "word 3"),
+        ("cost --domain  --problem p", "word 3"),
+        ("cost --domain= --problem p", "word 2"),
+        ("cost --domain -d", "word 3"),
+        ("cost --domain --problem p", "word 3"),
+        ("cost --goals g --domain=-d", "word 4"),
+        ("cost --domain d --domain e", "repeated word 4"),
+        ("cost --domain d --domain=e", "repeated word 4"),
+        ("cost --domain=d --domain e", "repeated word 3"),
+        ("cost --domain=d --domain=e", "repeated word 3"),
+        ("cost --domain d --domain -", "repeated word 4"),
+        ("cost --domain d --domain=-", "word 4"),
+        ("cost --domain d --domain", "word 4"),
+        ("cost --domain d --domain e stray", "repeated word 4"),
+        ("wcd", "missing --domain"),
+        ("cost --domain d", "missing --problem"),
+        ("cost --goals g --domain=d", "missing --problem"),
+        (
+            "wcd --problem p --max-states 0 --domain d",
+            "missing --goals",
+        ),
+        ("cost --domain d --max-states 0 stray", "word 6"),
+    ] {
+        let line = format!(in rt.alloc(); "grd: usage: {fault}\n")?;
+        let outcome = run_without_files(rt.alloc(), words)?;
+        expect(&rt, words, &outcome, 2, "", line.as_str());
+    }
+    Ok(())
+}
+
+/// The words of `cost` with a number.
+fn with_number(alloc: Global, number: &str) -> Result<String, AllocError> {
+    format!(in alloc; "{COST} --max-states={number}")
+}
+
+#[test]
+fn numbers_are_1_to_10_digits_in_their_range(rt: HostRuntime) -> Result<(), Fail> {
+    for number in [
+        "0",
+        "200001",
+        "00000000001",
+        "12345678901",
+        "18446744073709551617",
+        "1x",
+        "+1",
+        "1_000",
+        "0x1",
+        "1.0",
+    ] {
+        let words = with_number(rt.alloc(), number)?;
+        let outcome = run_without_files(rt.alloc(), words.as_str())?;
+        expect(
+            &rt,
+            number,
+            &outcome,
+            2,
+            "",
+            "grd: usage: number --max-states\n",
+        );
+    }
+    for number in ["1", "200000", "0000000001", "0000200000"] {
+        let words = with_number(rt.alloc(), number)?;
+        let outcome = run_without_files(rt.alloc(), words.as_str())?;
+        expect(&rt, number, &outcome, 5, "", "grd: domain: read failed\n");
+    }
+    Ok(())
+}
+
+#[test]
+fn items_are_taken_in_any_order_and_form(rt: HostRuntime) -> Result<(), Fail> {
+    for words in [
+        "cost --goals g --problem p --domain d",
+        "cost --max-states 5 --problem=p --goals g --domain=d",
+        "cost --goals=g --domain=d --max-states=200000 --problem=p",
+    ] {
+        let outcome = run_on(rt.alloc(), words, fork("(at1)"), WHOLE)?;
+        expect(&rt, words, &outcome, 0, "goals 1\ngoal 1 cost 1 (a)\n", "");
+        let outcome = run_without_files(rt.alloc(), words)?;
+        expect(&rt, words, &outcome, 5, "", "grd: domain: read failed\n");
+    }
+    Ok(())
+}
+
+#[test]
+fn faulty_goals_files_are_told(rt: HostRuntime) -> Result<(), Fail> {
+    for (goals, fault) in [
+        ("(atq)", "line 1: unknown atom"),
+        ("(at0 at1)", "line 1: unknown atom"),
+        (
+            "(atl)\r\n(atr)\r\n(atl), (atq)\r\n(atl",
+            "line 3: unknown atom",
+        ),
+        ("\n ; (atl\n(atl", "line 3: shape"),
+        ("(atl) ; behind an atom", "line 1: shape"),
+        ("(atl)\n(not (atr))\n(atq)\n", "line 2: shape"),
+        ("", "no goal"),
+        (" ,\t\n;(atl)\n", "no goal"),
+    ] {
+        let line = format!(in rt.alloc(); "grd: goals: {fault}\n")?;
+        let outcome = run_on(rt.alloc(), WCD, fork(goals), WHOLE)?;
+        expect(&rt, goals, &outcome, 1, "", line.as_str());
+    }
+    Ok(())
+}
+
+const TYPED: &str = "(define (domain fork) (:types t) (:predicates (atl)))";
+
+const OBJECTS: &str =
+    "(define (problem p) (:domain fork) (:objects o) (:init) (:goal (and <hypothesis>)))";
+
+const ELSEWHERE: &str = "(define (problem p) (:domain spoon) (:init) (:goal (and <hypothesis>)))";
+
+const UNDECLARED: &str =
+    "(define (problem p) (:domain fork) (:init (at9)) (:goal (and <hypothesis>)))";
+
+#[test]
+fn first_refused_file_is_told(rt: HostRuntime) -> Result<(), Fail> {
+    for (domain, problem, goals, line) in [
+        (TYPED, FORK_START, "(atl)", "grd: domain: not yet read\n"),
+        ("", FORK_START, "(atl)", "grd: domain: not yet read\n"),
+        (FORK, OBJECTS, "(atl)", "grd: problem: not yet read\n"),
+        (FORK, ELSEWHERE, "(atl)", "grd: problem: not yet read\n"),
+        (FORK, UNDECLARED, "(atl)", "grd: problem: not yet read\n"),
+        (TYPED, OBJECTS, "(atq)", "grd: domain: not yet read\n"),
+        (TYPED, FORK_START, "", "grd: domain: not yet read\n"),
+        (FORK, OBJECTS, "(atq)", "grd: problem: not yet read\n"),
+    ] {
+        let texts = Texts {
+            domain,
+            problem,
+            goals,
+        };
+        let outcome = run_on(rt.alloc(), COST, texts, WHOLE)?;
+        expect(&rt, COST, &outcome, 1, "", line);
+    }
+    Ok(())
+}
+
+/// The text with blanks behind it, of so many bytes.
+fn padded(alloc: Global, text: &str, bytes: usize) -> Result<String, AllocError> {
+    let mut padded = String::from_str(alloc, text)?;
+    for _ in text.len()..bytes {
+        padded.push(' ')?;
+    }
+    Ok(padded)
+}
+
+#[test]
+fn files_have_at_most_2_to_the_20_bytes(rt: HostRuntime) -> Result<(), Fail> {
+    let goals = padded(rt.alloc(), "(at1)", 1 << 20)?;
+    let domain = padded(rt.alloc(), FORK, 1 << 20)?;
+    let longest = Texts {
+        domain: domain.as_str(),
+        problem: FORK_START,
+        goals: goals.as_str(),
+    };
+    let outcome = run_on(rt.alloc(), COST, longest, WHOLE)?;
+    expect(&rt, COST, &outcome, 0, "goals 1\ngoal 1 cost 1 (a)\n", "");
+
+    let goals = padded(rt.alloc(), "(at1)", (1 << 20) + 1)?;
+    let outcome = run_on(rt.alloc(), COST, fork(goals.as_str()), WHOLE)?;
+    let line = "grd: goals: longer than 1048576 bytes\n";
+    expect(&rt, COST, &outcome, 1, "", line);
+
+    let domain = padded(rt.alloc(), FORK, (1 << 20) + 1)?;
+    let longer = Texts {
+        domain: domain.as_str(),
+        problem: FORK_START,
+        goals: goals.as_str(),
+    };
+    let outcome = run_on(rt.alloc(), COST, longer, WHOLE)?;
+    expect(&rt, COST, &outcome, 1, "", "grd: domain: not yet read\n");
+    Ok(())
+}
+
+/// A domain of 17 atoms that can each be made true by itself, so that 2^17 states are reached.
+fn switches(alloc: Global) -> Result<String, AllocError> {
+    let mut predicates = String::new(alloc);
+    let mut actions = String::new(alloc);
+    for i in 0..17u32 {
+        let predicate = format!(in alloc; "(p{i})")?;
+        predicates.push_str(predicate.as_str())?;
+        let action = format!(in alloc;
+            "(:action a{i} :parameters () :precondition (and) :effect (p{i}))"
+        )?;
+        actions.push_str(action.as_str())?;
+    }
+    format!(in alloc; "(define (domain switches) (:predicates (never) {predicates}) {actions})")
+}
+
+#[test]
+fn goal_that_meets_the_limit_is_told(rt: HostRuntime) -> Result<(), Fail> {
+    for (command, goals, states, line) in [
+        (
+            "cost",
+            "(atl)",
+            1,
+            "grd: limit: more than 1 states near goal 1\n",
+        ),
+        (
+            "cost",
+            "(at0)\n(atl)",
+            1,
+            "grd: limit: more than 1 states near goal 2\n",
+        ),
+        ("cost", "(at0)\n(atl)", 5, ""),
+        (
+            "cost",
+            "(at0), (atl)\n(at0)",
+            4,
+            "grd: limit: more than 4 states near goal 1\n",
+        ),
+        ("wcd", "(at0)\n(atl)", 5, ""),
+        // Five states are within the three steps of the second goal, though the plan is found with four.
+        (
+            "wcd",
+            "(at0)\n(atl)",
+            4,
+            "grd: limit: more than 4 states near goal 2\n",
+        ),
+    ] {
+        let words = format!(in rt.alloc();
+            "{command} --domain d --problem p --goals g --max-states {states}"
+        )?;
+        let outcome = run_on(rt.alloc(), words.as_str(), fork(goals), WHOLE)?;
+        assert_eq!(rt; outcome.err.as_str(), line, "{words} {goals}");
+        assert_eq!(rt; outcome.status.code(), if line.is_empty() { 0 } else { 4 });
+    }
+    let domain = switches(rt.alloc())?;
+    let texts = Texts {
+        domain: domain.as_str(),
+        problem: "(define (problem p) (:domain switches) (:init) (:goal (and <hypothesis>)))",
+        goals: "(p0)(p16)\n(never)\n",
+    };
+    let outcome = run_on(rt.alloc(), COST, texts, WHOLE)?;
+    let line = "grd: limit: more than 100000 states near goal 2\n";
+    expect(&rt, COST, &outcome, 4, "", line);
+    Ok(())
+}
+
+#[test]
+fn failing_devices_are_named(rt: HostRuntime) -> Result<(), Fail> {
+    let report = "goals 1\ngoal 1 cost 3 (a) (b) (l)\nwcd none\n";
+    for (shelf, out, err, code, written, warned) in [
+        (1, 0, 0, 5, "", "grd: domain: read failed\n"),
+        (2, 0, 0, 5, "", "grd: domain: read failed\n"),
+        (3, 0, 0, 5, "", "grd: problem: read failed\n"),
+        (4, 0, 0, 5, "", "grd: problem: read failed\n"),
+        (5, 0, 0, 5, "", "grd: goals: read failed\n"),
+        (6, 0, 0, 5, "", "grd: goals: read failed\n"),
+        (7, 0, 0, 0, report, ""),
+        (0, 1, 0, 6, "", "grd: output: write failed\n"),
+        (0, 2, 0, 0, report, ""),
+        (1, 0, 1, 5, "", ""),
+    ] {
+        let failing = Failing { shelf, out, err };
+        let outcome = run_on(rt.alloc(), WCD, fork("(atl)"), failing)?;
+        expect(&rt, warned, &outcome, code, written, warned);
+    }
+    Ok(())
+}
