@@ -24,7 +24,7 @@ struct Failing {
     err: u64,
 }
 
-const WHOLE: Failing = Failing {
+const NO_FAILURE: Failing = Failing {
     shelf: 0,
     out: 0,
     err: 0,
@@ -77,7 +77,7 @@ fn run_over(
 /// Runs words over a shelf without files.
 fn run_without_files(alloc: Global, words: &str) -> Result<Outcome, Fail> {
     let shelf = MemoryShelf::new(alloc, Vec::new(alloc), Vec::new(alloc));
-    run_over(alloc, words, shelf, WHOLE)
+    run_over(alloc, words, shelf, NO_FAILURE)
 }
 
 /// Runs words over the files d, p and g.
@@ -91,11 +91,11 @@ fn run_on(alloc: Global, words: &str, texts: Texts<'_>, failing: Failing) -> Res
     run_over(alloc, words, shelf, failing)
 }
 
-/// The run of these words ended with the code, and wrote these texts.
-fn expect(rt: &impl Abort, words: &str, outcome: &Outcome, code: u8, out: &str, err: &str) {
-    assert_eq!(rt; outcome.out.as_str(), out, "{words}");
-    assert_eq!(rt; outcome.err.as_str(), err, "{words}");
-    assert_eq!(rt; outcome.status.code(), code, "{words}");
+/// The run ended with the code, and wrote these texts. A failure names the case.
+fn expect(rt: &impl Abort, case: &str, outcome: &Outcome, code: u8, out: &str, err: &str) {
+    assert_eq!(rt; outcome.out.as_str(), out, "{case}");
+    assert_eq!(rt; outcome.err.as_str(), err, "{case}");
+    assert_eq!(rt; outcome.status.code(), code, "{case}");
 }
 
 const COST: &str = "cost --domain d --problem p --goals g";
@@ -181,7 +181,7 @@ fn costs_and_plans_are_printed(rt: HostRuntime) -> Result<(), Fail> {
             problem,
             goals,
         };
-        let outcome = run_on(rt.alloc(), COST, texts, WHOLE)?;
+        let outcome = run_on(rt.alloc(), COST, texts, NO_FAILURE)?;
         expect(&rt, goals, &outcome, 0, report, "");
     }
     Ok(())
@@ -216,7 +216,7 @@ fn longest_common_sequences_are_printed(rt: HostRuntime) -> Result<(), Fail> {
             wcd 2 goals 2 3\nprefix (a) (b)\nplan 2 (a) (b) (l)\nplan 3 (a) (b) (r)\n",
         ),
     ] {
-        let outcome = run_on(rt.alloc(), WCD, fork(goals), WHOLE)?;
+        let outcome = run_on(rt.alloc(), WCD, fork(goals), NO_FAILURE)?;
         expect(&rt, goals, &outcome, 0, report, "");
     }
     Ok(())
@@ -234,7 +234,7 @@ fn equal_goals(alloc: Global, count: usize) -> Result<String, AllocError> {
 #[test]
 fn goals_are_at_most_32(rt: HostRuntime) -> Result<(), Fail> {
     let goals = equal_goals(rt.alloc(), 32)?;
-    let outcome = run_on(rt.alloc(), WCD, fork(goals.as_str()), WHOLE)?;
+    let outcome = run_on(rt.alloc(), WCD, fork(goals.as_str()), NO_FAILURE)?;
     assert_eq!(rt; outcome.status, Status::Done);
     // Which two of the goals are named is not promised.
     assert!(rt;
@@ -245,7 +245,7 @@ fn goals_are_at_most_32(rt: HostRuntime) -> Result<(), Fail> {
     );
     assert!(rt; outcome.out.as_str().contains("\nwcd 3 goals "));
     let goals = equal_goals(rt.alloc(), 33)?;
-    let outcome = run_on(rt.alloc(), WCD, fork(goals.as_str()), WHOLE)?;
+    let outcome = run_on(rt.alloc(), WCD, fork(goals.as_str()), NO_FAILURE)?;
     expect(
         &rt,
         WCD,
@@ -348,7 +348,7 @@ fn items_are_taken_in_any_order_and_form(rt: HostRuntime) -> Result<(), Fail> {
         "cost --max-states 5 --problem=p --goals g --domain=d",
         "cost --goals=g --domain=d --max-states=200000 --problem=p",
     ] {
-        let outcome = run_on(rt.alloc(), words, fork("(at1)"), WHOLE)?;
+        let outcome = run_on(rt.alloc(), words, fork("(at1)"), NO_FAILURE)?;
         expect(&rt, words, &outcome, 0, "goals 1\ngoal 1 cost 1 (a)\n", "");
         let outcome = run_without_files(rt.alloc(), words)?;
         expect(&rt, words, &outcome, 5, "", "grd: domain: read failed\n");
@@ -372,7 +372,7 @@ fn faulty_goals_files_are_told(rt: HostRuntime) -> Result<(), Fail> {
         (" ,\t\n;(atl)\n", "no goal"),
     ] {
         let line = format!(in rt.alloc(); "grd: goals: {fault}\n")?;
-        let outcome = run_on(rt.alloc(), WCD, fork(goals), WHOLE)?;
+        let outcome = run_on(rt.alloc(), WCD, fork(goals), NO_FAILURE)?;
         expect(&rt, goals, &outcome, 1, "", line.as_str());
     }
     Ok(())
@@ -405,7 +405,7 @@ fn first_refused_file_is_told(rt: HostRuntime) -> Result<(), Fail> {
             problem,
             goals,
         };
-        let outcome = run_on(rt.alloc(), COST, texts, WHOLE)?;
+        let outcome = run_on(rt.alloc(), COST, texts, NO_FAILURE)?;
         expect(&rt, COST, &outcome, 1, "", line);
     }
     Ok(())
@@ -429,11 +429,11 @@ fn files_have_at_most_2_to_the_20_bytes(rt: HostRuntime) -> Result<(), Fail> {
         problem: FORK_START,
         goals: goals.as_str(),
     };
-    let outcome = run_on(rt.alloc(), COST, longest, WHOLE)?;
+    let outcome = run_on(rt.alloc(), COST, longest, NO_FAILURE)?;
     expect(&rt, COST, &outcome, 0, "goals 1\ngoal 1 cost 1 (a)\n", "");
 
     let goals = padded(rt.alloc(), "(at1)", (1 << 20) + 1)?;
-    let outcome = run_on(rt.alloc(), COST, fork(goals.as_str()), WHOLE)?;
+    let outcome = run_on(rt.alloc(), COST, fork(goals.as_str()), NO_FAILURE)?;
     let line = "grd: goals: longer than 1048576 bytes\n";
     expect(&rt, COST, &outcome, 1, "", line);
 
@@ -443,7 +443,7 @@ fn files_have_at_most_2_to_the_20_bytes(rt: HostRuntime) -> Result<(), Fail> {
         problem: FORK_START,
         goals: goals.as_str(),
     };
-    let outcome = run_on(rt.alloc(), COST, longer, WHOLE)?;
+    let outcome = run_on(rt.alloc(), COST, longer, NO_FAILURE)?;
     expect(&rt, COST, &outcome, 1, "", "grd: domain: not yet read\n");
     Ok(())
 }
@@ -486,7 +486,7 @@ fn goal_that_meets_the_limit_is_told(rt: HostRuntime) -> Result<(), Fail> {
             "grd: limit: more than 4 states near goal 1\n",
         ),
         ("wcd", "(at0)\n(atl)", 5, ""),
-        // Five states are within the three steps of the second goal, though the plan is found with four.
+        // Five states are within the three steps of its plan, and `cost` finds it with fewer.
         (
             "wcd",
             "(at0)\n(atl)",
@@ -497,7 +497,7 @@ fn goal_that_meets_the_limit_is_told(rt: HostRuntime) -> Result<(), Fail> {
         let words = format!(in rt.alloc();
             "{command} --domain d --problem p --goals g --max-states {states}"
         )?;
-        let outcome = run_on(rt.alloc(), words.as_str(), fork(goals), WHOLE)?;
+        let outcome = run_on(rt.alloc(), words.as_str(), fork(goals), NO_FAILURE)?;
         assert_eq!(rt; outcome.err.as_str(), line, "{words} {goals}");
         assert_eq!(rt; outcome.status.code(), if line.is_empty() { 0 } else { 4 });
     }
@@ -507,7 +507,7 @@ fn goal_that_meets_the_limit_is_told(rt: HostRuntime) -> Result<(), Fail> {
         problem: "(define (problem p) (:domain switches) (:init) (:goal (and <hypothesis>)))",
         goals: "(p0)(p16)\n(never)\n",
     };
-    let outcome = run_on(rt.alloc(), COST, texts, WHOLE)?;
+    let outcome = run_on(rt.alloc(), COST, texts, NO_FAILURE)?;
     let line = "grd: limit: more than 100000 states near goal 2\n";
     expect(&rt, COST, &outcome, 4, "", line);
     Ok(())
