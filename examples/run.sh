@@ -8,15 +8,16 @@ rt run >/dev/null 2>&1 || true
 program=out/grd_program
 failed=0
 printed=$(mktemp)
-trap 'rm -f "$printed"' EXIT
+warned=$(mktemp)
+trap 'rm -f "$printed" "$warned"' EXIT
 
-# check WANTED-STATUS WANTED-OUTPUT WORD..
+# check WANTED-STATUS WANTED-OUTPUT WANTED-ERROR-LINE WORD..
 check() {
-    local wanted=$1 output=$2 status
-    shift 2
-    "$program" "$@" >"$printed" 2>/dev/null
+    local wanted=$1 output=$2 line=$3 status
+    shift 3
+    "$program" "$@" >"$printed" 2>"$warned"
     status=$?
-    if [ "$status" = "$wanted" ] && cmp -s "$printed" "$output"; then
+    if [ "$status" = "$wanted" ] && cmp -s "$printed" "$output" && [ "$(cat "$warned")" = "$line" ]; then
         echo "ok: $*"
     else
         echo "FAILED (status $status, wanted $wanted): $*"
@@ -24,13 +25,21 @@ check() {
     fi
 }
 
-for example in fork keep; do
-    files=../../examples/$example
-    check 0 "$files/expected.txt" cost --domain "$files/domain.pddl" --problem "$files/problem.pddl" --goals "$files/goals.txt"
-done
 fork=../../examples/fork
 keep=../../examples/keep
-check 1 /dev/null cost --domain "$fork/domain.pddl" --problem "$keep/problem.pddl" --goals "$fork/goals.txt"
-check 2 /dev/null cost --domain "$fork/domain.pddl"
-check 5 /dev/null cost --domain "$fork/missing.pddl" --problem "$fork/problem.pddl" --goals "$fork/goals.txt"
+for files in "$fork" "$keep"; do
+    check 0 "$files/expected.txt" "" cost --domain "$files/domain.pddl" --problem "$files/problem.pddl" --goals "$files/goals.txt"
+done
+on_fork=(--domain "$fork/domain.pddl" --problem "$fork/problem.pddl")
+check 0 "$fork/expected_wcd.txt" "" wcd "${on_fork[@]}" --goals "$fork/two_goals.txt"
+check 0 "$fork/expected_wcd.txt" "" wcd --max-states=5 "${on_fork[@]}" "--goals=$fork/two_goals.txt"
+
+check 1 /dev/null "grd: problem: not yet read" cost --domain "$fork/domain.pddl" --problem "$keep/problem.pddl" --goals "$fork/goals.txt"
+check 1 /dev/null "grd: goals: line 3: unknown atom" wcd "${on_fork[@]}" --goals "$fork/unknown_atom.txt"
+check 2 /dev/null "grd: usage: no command"
+check 2 /dev/null "grd: usage: missing --problem" cost --domain "$fork/domain.pddl"
+check 2 /dev/null "grd: usage: word 2" wcd --help
+check 2 /dev/null "grd: usage: number --max-states" cost "${on_fork[@]}" --goals "$fork/goals.txt" --max-states 0
+check 4 /dev/null "grd: limit: more than 1 states near goal 1" cost "${on_fork[@]}" --goals "$fork/goals.txt" --max-states 1
+check 5 /dev/null "grd: domain: read failed" cost --domain "$fork/missing.pddl" --problem "$fork/problem.pddl" --goals "$fork/goals.txt"
 exit $failed
