@@ -5,7 +5,7 @@ use Rattle.std.specs.List.{AllByRecursion, flat_map}
 use Rattle.std.specs.Option.{option_map, option_and_then, MatchOption}
 use Rattle.std.proofs.lemmas.Bool.{false≢true, eqb-true}
 use Rattle.std.proofs.lemmas.Bool.Decides.{nat_tests}
-use Rattle.goal_files.specs.Lines.{Piece, Mark, Opens, Closes, Names, marks_of, IsName, IsAtom, atom_marks, IsGoalLine}
+use Rattle.goal_files.specs.Lines.{Piece, Mark, Opens, Closes, Names, marks_of, BeginsAsName, IsAtom, atom_marks, IsGoalLine}
 use Rattle.goal_files.specs.Goals.{HasNoAtoms}
 use Rattle.goal_files.specs.Reading.{front_of, begins_name, PlainReading, with_mark, with_marks, whole_atoms}
 use Rattle.goal_files.proofs.Cuts.{cut_of, marks_at, cut_is, is_cut}
@@ -25,17 +25,17 @@ nothing_read = record { atoms = []; names = None }
 
 -- ---- a name
 
-is_name : (name : List ℕ) → begins_name name ≡ true → IsName name
+is_name : (name : List ℕ) → begins_name name ≡ true → BeginsAsName name
 is_name [] e = absurd (false≢true e)
 is_name (b ∷ name) e = let h : not (b == 45) ≡ true = e in grind (arith, nat_tests)
 
-begins : (name : List ℕ) → IsName name → begins_name name ≡ true
+begins : (name : List ℕ) → BeginsAsName name → begins_name name ≡ true
 begins [] h = absurd h
 begins (b ∷ name) h = let other : b ≢ 45 = h in grind (arith, nat_tests)
 
 -- ---- the words of a line with these atoms are read
 
-names_read : (atoms : Atoms) (before names : List (List ℕ)) (more : List Mark) → AllByRecursion IsName names
+names_read : (atoms : Atoms) (before names : List (List ℕ)) (more : List Mark) → AllByRecursion BeginsAsName names
     → with_marks (reading_of atoms (Some before)) (map Names names ++ more) ≡ with_marks (reading_of atoms (Some (before ++ names))) more
 names_read atoms before [] more h = ap (λ ns. with_marks (reading_of atoms (Some ns)) more) (sym (append-nil before))
 names_read atoms before (name ∷ names) more h =
@@ -69,7 +69,7 @@ written r = flat_map atom_marks r.atoms ++ open_marks r.names
 
 abbrev AreOpen : Open → Type 0
 AreOpen None = Unit {0}
-AreOpen (Some names) = AllByRecursion IsName names
+AreOpen (Some names) = AllByRecursion BeginsAsName names
 
 record IsReading (r : PlainReading) : Type 0 where
   atoms : AllByRecursion IsAtom r.atoms
@@ -122,7 +122,7 @@ one_read atoms (Some names) (Names name) to is e = at_name (begins_name name) re
         let same : reading_of atoms (Some (names ++ name ∷ [])) ≡ to = cc in
         let found : Reads (reading_of atoms (Some names)) (reading_of atoms (Some (names ++ name ∷ []))) (Names name ∷ []) = record {
           whole = append_assoc (flat_map atom_marks atoms) (Opens ∷ map Names names) (Names name ∷ []) ∙ ap (λ marks. flat_map atom_marks atoms ++ Opens ∷ marks) (sym (map-push names name));
-          keeps = record { atoms = is.atoms; names = all_push IsName names name is.names (is_name name h) };
+          keeps = record { atoms = is.atoms; names = all_push BeginsAsName names name is.names (is_name name h) };
         } in
         subst (λ r. Reads (reading_of atoms (Some names)) r (Names name ∷ [])) same found
 

@@ -5,7 +5,7 @@ use Rattle.std.specs.Char.{is_ascii_alphanumeric}
 use Rattle.std.specs.Str.{str_to_ascii_lowercase}
 use Rattle.std.specs.Str.Lines.{strip_carriage_return}
 
--- the lines of a text, each without the carriage return at its end
+-- the lines of a text, each without the one carriage return at its end
 abbrev pub lines_of : List ℕ → List (List ℕ)
 lines_of text = map strip_carriage_return (slice_split (λ b. b == 10) text)
 
@@ -69,14 +69,14 @@ marks_of (Open ∷ rest) = Opens ∷ marks_of rest
 marks_of (Close ∷ rest) = Closes ∷ marks_of rest
 marks_of (Run bytes ∷ rest) = Names (str_to_ascii_lowercase bytes) ∷ marks_of rest
 
--- a hyphen does not begin a name
-abbrev pub IsName : List ℕ → Type 0
-IsName [] = ⊥
-IsName (b ∷ bytes) = b ≢ 45
+-- a name is not empty, and no hyphen begins it
+abbrev pub BeginsAsName : List ℕ → Type 0
+BeginsAsName [] = ⊥
+BeginsAsName (b ∷ bytes) = b ≢ 45
 
 -- an atom: its predicate and its objects, by their names
 abbrev pub IsAtom : List (List ℕ) → Type 0
-IsAtom names = (0 < length names) × AllByRecursion IsName names
+IsAtom names = (0 < length names) × AllByRecursion BeginsAsName names
 
 abbrev pub atom_marks : List (List ℕ) → List Mark
 atom_marks names = Opens ∷ map Names names ++ Closes ∷ []

@@ -4,7 +4,7 @@ use Rattle.std.specs.List.{All, Contains}
 use Rattle.std.proofs.Math.Seq.{split_at}
 use Rattle.std.proofs.lemmas.Bool.{cases_order}
 use Rattle.std.proofs.lemmas.List.{get_or_default}
-use Rattle.std.proofs.lemmas.List.Elements.{All-contains, All-nil, All-cons, All-append, Contains-append_left, Contains-append_right, Contains-append_cases, Contains-push, Contains-push_cases}
+use Rattle.std.proofs.lemmas.List.Elements.{All-contains, All-nil, All-cons, All-append, Contains-append_left, Contains-append_right, Contains-append_cases, Contains-push}
 use Rattle.grd_base.specs.declared.limits.Limits.{Limits}
 use Rattle.grd_program.specs.declared.command.Command.{Command}
 use Rattle.grd_program.specs.declared.command.Command.TheVariants.{Cost, Wcd}
@@ -59,15 +59,6 @@ first_behind front names P name none first = record {
   none = All-append (λ n. P n → ⊥) front first.before none first.none;
 }
 
-pub first_before : (names behind : List OptionName) (P : OptionName → Type 0) (name : OptionName) → IsFirstWith names P name → IsFirstWith (names ++ behind) P name
-first_before names behind P name first = record {
-  before = first.before;
-  behind = first.behind ++ behind;
-  whole = ap (λ ns. ns ++ behind) first.whole ∙ append_assoc first.before (name ∷ first.behind) behind;
-  has = first.has;
-  none = first.none;
-}
-
 -- the limits with the number that an option is given
 number_sets : (name : OptionName) (limits : Limits) (n : ℕ) → (with_number_of limits name n).sets ≡ limits.sets
 number_sets Domain limits n = refl
@@ -97,29 +88,10 @@ limits_with name items limits value range n once gives ranged number = record {
         let value_is : value ≡ bad.1 = gives_once items name value bad.1 once gives bad.3 in
         bad.4 n (subst (λ v. IsNumber bad.0 v n) value_is (subst (λ r. IsNumber r value n) range_is number))
 
--- the limits stay where an option has no number, or is not given
-pub limits_without : (name : OptionName) (items : List Item) (limits : Limits) → (range_of name ≡ None) ⊎ NotGiven items name → ReadsLimits (name ∷ []) items limits limits
-limits_without name items limits none = record {
-  good = All-cons (λ m. GivesNoNumber items m → ⊥) name [] (is_good none) (All-nil (λ m. GivesNoNumber items m → ⊥));
-  states = inr (λ among. each (Contains-push_cases [] name MaxStates among) none, refl);
-  sets = refl;
-}
-  where
-    is_good : (range_of name ≡ None) ⊎ NotGiven items name → GivesNoNumber items name → ⊥
-    is_good (inl e) bad = let same : ◌≡◌ {A = Option (ℕ × ℕ)} None (Some bad.0) = sym e ∙ bad.2 in cc
-    is_good (inr h) bad = h (bad.1, bad.3)
-
     each : Contains [] MaxStates ⊎ (name ≡ MaxStates) → (range_of name ≡ None) ⊎ NotGiven items name → NotGiven items MaxStates
     each (inl among) h = absurd (omega (arith, among.1))
     each (inr is) (inl e) = let none_is : range_of MaxStates ≡ None = ap range_of (sym is) ∙ e in cc
     each (inr is) (inr h) = subst (λ m. NotGiven items m) is h
-
-pub no_limits : (items : List Item) (limits : Limits) → ReadsLimits [] items limits limits
-no_limits items limits = record {
-  good = All-nil (λ m. GivesNoNumber items m → ⊥);
-  states = inr (λ among. absurd (omega (arith, among.1)), refl);
-  sets = refl;
-}
 
 -- the limits that two lists of names give, one behind the other
 pub both_limits : (front names : List OptionName) (items : List Item) (a b c : Limits) → ReadsLimits front items a b → ReadsLimits names items b c → ReadsLimits (front ++ names) items a c

@@ -1,5 +1,5 @@
 -- The words of the options and of the commands: they differ, and no word of an option has a '='.
-use Rattle.std.proofs.Common.{◌≡◌, ◌≢◌, ℕ, Bool, true, false, cond, eqb, List, [], ◌∷◌, ◌++◌, refl, sym, ◌∙◌, ap, subst, rules, Option, Some, None}
+use Rattle.std.proofs.Common.{◌≡◌, ◌≢◌, ℕ, Bool, true, false, cond, eqb, List, [], ◌∷◌, ◌++◌, refl, sym, ◌∙◌, ap, rules, Option, Some, None}
 use Rattle.std.specs.List.{All}
 use Rattle.std.specs.Str.{bytes_eq}
 use Rattle.std.proofs.lemmas.List.Elements.{All-head, All-tail, All-contains}
@@ -7,7 +7,7 @@ use Rattle.grd_program.specs.declared.command.Command.{Command}
 use Rattle.grd_program.specs.declared.command.Command.TheVariants.{Cost, Wcd}
 use Rattle.grd_program.specs.declared.command.OptionName.{OptionName}
 use Rattle.grd_program.specs.declared.command.OptionName.TheVariants.{Domain, Problem, Goals, MaxStates}
-use Rattle.grd_program.specs.Commands.{BeginsNoItem, IsValue, command_text, flag_of, joined_of, options_of}
+use Rattle.grd_program.specs.Commands.{BeginsNoItem, command_text, flag_of, joined_of, options_of}
 use Rattle.grd_program.specs.Words.{HasNoEquals}
 
 -- the command and the option that a word names
@@ -38,12 +38,6 @@ before_equals (b ∷ bs) = cond (eqb b 61) [] (b ∷ before_equals bs)
 abbrev pub behind_equals : List ℕ → Option (List ℕ)
 behind_equals [] = None
 behind_equals (b ∷ bs) = cond (eqb b 61) (Some bs) (behind_equals bs)
-
-before-flag_of : (n : OptionName) → before_equals (flag_of n) ≡ flag_of n
-before-flag_of Domain = refl
-before-flag_of Problem = refl
-before-flag_of Goals = refl
-before-flag_of MaxStates = refl
 
 behind-flag_of : (n : OptionName) → behind_equals (flag_of n) ≡ None
 behind-flag_of Domain = refl
@@ -119,14 +113,4 @@ pub begins_none_joined : (command : Command) (flag value : List ℕ) → HasNoEq
 begins_none_joined command flag value plain none = record {
   bare = λ n among e. let same : ◌≡◌ {A = Option (List ℕ)} (Some value) None = sym (behind_cut flag value plain) ∙ ap behind_equals e ∙ behind-flag_of n in cc;
   joined = λ n v among is_value e. All-contains (λ m. flag ≢ flag_of m) (options_of command) n none among (sym (before_cut flag value plain) ∙ ap before_equals e ∙ before-joined_of n v);
-}
-
--- nor one whose part behind it is no value
-pub begins_none_empty : (command : Command) (flag value : List ℕ) → HasNoEquals flag → (IsValue value → ⊥) → BeginsNoItem command (flag ++ 61 ∷ value)
-begins_none_empty command flag value plain none = record {
-  bare = λ n among e. let same : ◌≡◌ {A = Option (List ℕ)} (Some value) None = sym (behind_cut flag value plain) ∙ ap behind_equals e ∙ behind-flag_of n in cc;
-  joined = λ n v among is_value e.
-      let same : Some value ≡ Some v = sym (behind_cut flag value plain) ∙ ap behind_equals e ∙ behind-joined_of n v in
-      let value_is : v ≡ value = cc in
-      none (subst IsValue value_is is_value);
 }

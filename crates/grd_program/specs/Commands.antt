@@ -109,7 +109,8 @@ pub record PlainJob : Type 0 where
   pub goals : List ℕ
   pub limits : Limits
 
--- the words ask for this job; a limit that is not given is 100,000 states or 200,000 sets
+-- the words ask for this job; where no limit on states is given it is 100,000, and the limit on sets,
+-- which neither command takes, is its default
 pub record Reads (words : List (List ℕ)) (job : PlainJob) : Type 0 where
   pub rest : List (List ℕ)
   pub items : List Item
@@ -141,7 +142,8 @@ IsSecondBad command items (word ∷ value ∷ rest) =
     (name : OptionName) × Contains (options_of command) name × NotGiven items name
     × (word ≡ flag_of name) × (IsValue value → ⊥)
 
--- the first of the words begins an item whose option is given before
+-- the first of the words is an option that is given before, with a word behind it, or it is an item of
+-- such an option in one word
 abbrev pub IsFirstRepeated : Command → List Item → List (List ℕ) → Type 0
 IsFirstRepeated command items [] = ⊥
 IsFirstRepeated command items (word ∷ rest) =

@@ -168,8 +168,8 @@ HasWordsCause words (Usage fault) = HasOnlyUsageFault words fault
 HasWordsCause words OutOfMemory = Unit {0}
 HasWordsCause words status = ⊥
 
--- why there is no report: the words are at fault, and then the shelf was not used, or the files of the
--- job are the cause
+-- why there is no report: the words are at fault, and then no count of the shelf changed, or the files
+-- of the job are the cause
 abbrev pub HasInputCause : (List ℕ → Told) → (List ℕ → Bool → ℕ) → (List ℕ → Bool → ℕ) → List (List ℕ) → Status → Type 0
 HasInputCause told before now words (Usage fault) = IsQuiet before now × HasOnlyUsageFault words fault
 HasInputCause told before now words OutOfMemory = Unit {0}
@@ -213,7 +213,7 @@ pub record HasNoFault (before now : List ℕ → Bool → ℕ) (job : PlainJob) 
   pub writes : Rose out_before out_now → ⊥
 
 -- where the words and the files are such, no count rose and no goal has more states than the limit,
--- the answer is there, unless memory was refused
+-- the run is Done, or ends in want of memory
 abbrev pub IsComplete : (List ℕ → Told) → (List ℕ → Bool → ℕ) → (List ℕ → Bool → ℕ) → List (List ℕ) → ℕ → ℕ → Status → Type 0
 IsComplete told before now words out_before out_now status =
     (job : PlainJob) (d : PlainDomain) (p : PlainProblem) (goals : List (List (List ℕ)))

@@ -7,9 +7,9 @@ use grd_base::{FileRole, GoalId, OutOfMemory};
 pub enum Status {
     /// The whole answer was written.
     Done,
-    /// A file is not one that the program answers.
+    /// A file is refused.
     Refused(Refusal),
-    /// The words are not those of a command.
+    /// The words ask for no job.
     Usage(UsageFault),
     /// A search met its limit.
     Limit(LimitFault),
@@ -40,7 +40,8 @@ pub enum UsageFault {
     UnknownCommand,
     /// The word is no item of the command, or no value.
     BadItem(u64),
-    /// The word begins an item whose option is given before.
+    /// The word is an option that is given before, with a word behind it, or an item of such an option
+    /// in one word.
     Repeated(u64),
     /// An option that the command must have is not given.
     Missing(OptionName),

@@ -47,7 +47,7 @@ pub record IsTask (t : PlainTask) : Type 0 where
   pub few_actions : length t.actions ≤ 2 ^ 21
   pub few_goals : length t.goals ≤ 32
 
--- a sequence that is common to two goals, with a plan of each that begins with it
+-- a sequence, two goals and a plan of each, which may show that the sequence is common to the two
 pub record PlainWitness : Type 0 where
   pub prefix : List ActionId
   pub goals : GoalId × GoalId

@@ -1,14 +1,14 @@
 use grd_base::{ActionId, GoalId};
 use std::marker::Model;
 
-/// A sequence that is common to two goals, with a plan of each that shows it.
+/// A sequence, two goals and a plan of each, which may show that the sequence is common to the two.
 #[derive(Debug, Drop)]
 pub struct Witness {
-    /// The actions with which both plans begin.
+    /// The sequence of actions.
     pub prefix: Vec<ActionId>,
-    /// The two goals, the first below the second.
+    /// The two goals.
     pub goals: (GoalId, GoalId),
-    /// An optimal plan of each of the two.
+    /// A plan of each of the two.
     pub plans: (Vec<ActionId>, Vec<ActionId>),
 }
 
