@@ -1,6 +1,5 @@
 -- An answer comes where its causes are excluded.
-use Rattle.std.proofs.Common.{◌≡◌, ℕ, ◌^◌, ◌<◌, ◌≤◌, ◌⊎◌, List, length, Bool, Option, Some, refl, sym, subst, inl, inr, ap, ◌∙◌, arith}
-use Rattle.std.specs.Prelude.{map}
+use Rattle.std.proofs.Common.{◌≡◌, ℕ, ◌^◌, ◌<◌, ◌≤◌, ◌⊎◌, List, length, Bool, Some, refl, sym, subst, inl, inr, arith}
 use Rattle.std.proofs.lemmas.List.{length-map}
 use Rattle.std.specs.Str.{bytes_eq}
 use Rattle.grd_base.specs.declared.roles.FileRole.TheVariants.{Domain, Problem, Goals, Observations, Certificate}
@@ -15,10 +14,10 @@ use Rattle.grd_program.specs.declared.status.Status.{Status}
 use Rattle.grd_program.specs.declared.status.Status.TheVariants.{Done, Refused, Usage, Limit, ReadFailed, WriteFailed, OutOfMemory}
 use Rattle.grd_program.specs.declared.status.Refusal.TheVariants.{NotYet, TooLong, Goals as OfGoals}
 use Rattle.grd_program.specs.declared.status.LimitFault.TheVariants.{States}
-use Rattle.grd_program.specs.Commands.{PlainJob, Reads}
+use Rattle.grd_program.specs.Commands.{PlainJob}
 use Rattle.grd_program.specs.Worlds.{FitsDomain, world_of, spelled_task}
 use Rattle.grd_program.specs.Causes.{HasText, LacksText, SpellsOnlyGoals, HasOnlyFault}
-use Rattle.grd_program.specs.Runs.{SpellsOnly, TakesDomain, TakesProblem, TakesFiles, HasWorld, HasNoFault, HasFilesCause, HasInputCause, HasCause, MayBecome, MeetsLimit, IsComplete}
+use Rattle.grd_program.specs.Runs.{SpellsOnly, HasWorld, HasNoFault, HasFilesCause, HasCause, MayBecome, MeetsLimit, IsComplete}
 
 -- the value that a file spells is the one that was taken
 taken : {V : Type 0} (Spells : List ℕ → V → Type 0) (told : Told) (text : List ℕ) (x y : V)

@@ -6,7 +6,7 @@ use Rattle.std.specs.List.{All, list_any}
 use Rattle.std.specs.Str.{bytes_eq}
 use Rattle.std.proofs.lemmas.Bool.{false_from_ne_true}
 use Rattle.std.proofs.lemmas.List.{length-map, map_more, map_push, get_or-map, get_or-take}
-use Rattle.std.proofs.lemmas.List.Elements.{All-nil, All-cons, All-filter, All-map, All-from_get_or, All-from_recursion, All-weaker, filter-append}
+use Rattle.std.proofs.lemmas.List.Elements.{All-filter, All-map, All-from_get_or, All-from_recursion, All-weaker, filter-append}
 use Rattle.std.proofs.lemmas.List.Folds.{list_any_none, list_any_more, list_any-append, Any-from_list_any, list_any-from_Any}
 use Rattle.grd_base.specs.declared.ids.AtomId.{AtomId}
 use Rattle.strips_model.specs.Values.{GroundAction, Goal, PlainTask, AreAtoms, IsActionBelow, IsTask}

@@ -1,5 +1,5 @@
 -- Why a file was not taken.
-use Rattle.std.specs.Prelude.{◌≡◌, ◌≢◌, ℕ, ◌^◌, ◌≤◌, Bool, false, List, length, Option, IfSome, IsSomeAnd}
+use Rattle.std.specs.Prelude.{◌≡◌, ◌≢◌, ℕ, ◌^◌, ◌≤◌, Bool, false, List, length, IfSome, IsSomeAnd}
 use Rattle.grd_io.specs.Bytes.{Told, IsLongerFile}
 use Rattle.grd_io.specs.Causes.{Rose}
 use Rattle.grd_base.specs.declared.roles.FileRole.{FileRole}
@@ -9,7 +9,7 @@ use Rattle.goal_files.specs.Goals.{SpellsGoals, IsGoalFault}
 use Rattle.goal_files.specs.declared.faults.GoalFault.{GoalFault}
 use Rattle.goal_files.specs.declared.faults.GoalFault.TheVariants.{OutOfMemory as GoalsOutOfMemory}
 use Rattle.grd_program.specs.declared.status.Status.{Status}
-use Rattle.grd_program.specs.declared.status.Status.TheVariants.{Done, Refused, Usage, Limit, ReadFailed, WriteFailed, OutOfMemory}
+use Rattle.grd_program.specs.declared.status.Status.TheVariants.{Refused, ReadFailed, OutOfMemory}
 use Rattle.grd_program.specs.declared.status.Refusal.TheVariants.{NotYet, TooLong, Goals as OfGoals}
 
 -- the file is there with at most 2^20 bytes, and its text has the property, where the shelf tells

@@ -1,7 +1,6 @@
-use Rattle.std.proofs.Common.{map, string_bytes, sym, subst, ap, [], IfOk, List}
+use Rattle.std.proofs.Common.{map, string_bytes, sym, subst, []}
 use Rattle.std.specs.Option.{option_map}
 use Rattle.strips_model.specs.Common.{AreRight}
-use Rattle.grd_program.specs.Worlds.{spelled_task}
 use Rattle.grd_program.specs.Reports.{action_names, IsWcdReport, IsReportOn}
 use Rattle.grd_program.proofs.FileLemmas.{ok_more, wcd_report_on}
 use Rattle.grd_program.proofs.answer.report_on.Goals as goal

@@ -1,7 +1,7 @@
-use Rattle.std.proofs.Common.{◌≡◌, ◌≤◌, ◌^◌, [], ◌∷◌, length, map, ◌∙◌, ap, subst, string_bytes, arith}
+use Rattle.std.proofs.Common.{◌≡◌, ◌≤◌, ◌^◌, length, map, ◌∙◌, ap, subst, arith}
 use Rattle.std.specs.Str.{bytes_eq}
 use Rattle.std.proofs.lemmas.List.{length-map}
-use Rattle.strips_model.specs.Worlds.{numbers_of, action_of, goal_of}
+use Rattle.strips_model.specs.Worlds.{numbers_of, action_of}
 use Rattle.grd_program.specs.Names.{HaveSame, world_with}
 use Rattle.grd_program.specs.Worlds.{positives, instance_of, world_of}
 use Rattle.grd_program.specs.Names.{texts_of}
