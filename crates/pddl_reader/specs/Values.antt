@@ -1,16 +1,19 @@
 -- What contracts see of a domain and a problem: their fields, with lists in the place of vectors.
 use Rattle.std.specs.Prelude.{Bool, List}
-use Rattle.pddl_reader.specs.Words.{Word}
-use Rattle.pddl_reader.specs.declared.values.Term.{Term}
+use Rattle.pddl_reader.specs.Forms.{Word}
 
 pub record PlainTypedName : Type 0 where
   pub name : Word
   pub types : List Word
 
+pub data PlainTerm : Type 0 where
+  Variable : Word → PlainTerm
+  Constant : Word → PlainTerm
+
 pub record PlainLiteral : Type 0 where
   pub positive : Bool
   pub predicate : Word
-  pub terms : List Term
+  pub terms : List PlainTerm
 
 pub record PlainSchema : Type 0 where
   pub name : Word

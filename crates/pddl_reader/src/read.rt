@@ -1,42 +1,65 @@
-ghost use Rattle.std.specs.Prelude.{◌≡◌, ◌^◌, ◌≤◌, length, IfOk, Err};
+ghost use Rattle.std.specs.Prelude.{◌≡◌, ◌⊎◌, ◌^◌, ◌≤◌, length, Err, IfOk, IfErr, IsOkAnd};
+ghost use Rattle.pddl_reader.specs.Forms.{Form, form_of};
+ghost use Rattle.pddl_reader.specs.Items.{AreItemsOver};
 ghost use Rattle.pddl_reader.specs.Values.{PlainDomain, PlainProblem};
-ghost use Rattle.pddl_reader.specs.Spelling.{IsDomainText, IsProblemText};
+ghost use Rattle.pddl_reader.specs.Spelling.{IsFormOf, IsDomainText, IsProblemText};
+ghost use Rattle.pddl_reader.specs.Faults.{IsDocumentFault, IsTextFault};
+ghost use Rattle.pddl_reader.specs.declared.kinds.Document.{Document};
 
+use crate::document::{domain, problem};
 use crate::faults::PddlFault;
-use crate::forms::is_first_form;
-use crate::parse::{domain_of, problem_of};
-use crate::tokens::tokens;
 use crate::values::{Domain, Problem};
+use pddl_lexer::{TreeList, tokens, tree};
 use std::alloc::Global;
 
-/// Reads a domain of the first form: the section `:predicates` and then actions, without types,
-/// constants and parameters. Each action has `:parameters ()`, `:precondition` and `:effect`, in
-/// this order. `NotYet` says that the text spells no such domain. The place `at` of a name is the
-/// number of bytes of `text` before it.
+/// The tree of the text's words and brackets.
+fn text_tree(alloc: Global, text: &[u8]) -> Result<TreeList, PddlFault>
+    requires { length text.now ≤ 2 ^ 20 }
+    ensures form { IfOk result (λ l. IsFormOf text.now (form_of text.now l)) }
+    ensures over { IfOk result (λ l. AreItemsOver text.now l.items.items) }
+    ensures few { IfOk result (λ l. length l.items.items ≤ length text.now) }
+    ensures fault { IfErr result (λ f. (f ≡ PddlFault.OutOfMemory)
+        ⊎ ((document : Document) → IsTextFault document text.now f)) }
+    ensures only { (f : Form) → IsFormOf text.now f
+        → (result ≡ Err PddlFault.OutOfMemory) ⊎ IsOkAnd result (λ l. f ≡ form_of text.now l) }
+    ensures fault_exactly { (document : Document) (f : PddlFault) → IsTextFault document text.now f
+        → (result ≡ Err f) ⊎ (result ≡ Err PddlFault.OutOfMemory)
+        ⊎ IsOkAnd result (λ l. IsDocumentFault document (form_of text.now l) f) }
+{
+    let tokens = tokens(alloc, text)?;
+    let tree = tree(alloc, text, &tokens)?;
+    Ok(tree)
+}
+
+/// Reads a domain. The place `at` of a name is the number of bytes of `text` before its word. Faulty
+/// bytes come first, then brackets, and then the first faulty item in text order.
 pub fn read_domain(alloc: Global, text: &[u8]) -> Result<Domain, PddlFault>
     requires { length text.now ≤ 2 ^ 20 }
     ensures spelled { IfOk result (λ d. IsDomainText text.now d) }
-    ensures only { IfOk result (λ d. (e : PlainDomain) → IsDomainText text.now e → e ≡ d) }
     ensures few_actions { IfOk result (λ d. length d.actions ≤ length text.now) }
-    ensures not_yet { result ≡ Err PddlFault.NotYet → (e : PlainDomain) → IsDomainText text.now e → ⊥ }
+    ensures fault { (f : PddlFault) → result ≡ Err f
+        → (f ≡ PddlFault.OutOfMemory) ⊎ IsTextFault Document.Domain text.now f }
+    ensures exactly { (d : PlainDomain) → IsDomainText text.now d
+        → (result ≡ Ok d) ⊎ (result ≡ Err PddlFault.OutOfMemory) }
+    ensures fault_exactly { (f : PddlFault) → IsTextFault Document.Domain text.now f
+        → (result ≡ Err f) ⊎ (result ≡ Err PddlFault.OutOfMemory) }
 {
-    let tokens = tokens(alloc, text)?;
-    let domain = domain_of(alloc, &tokens)?;
-    if !is_first_form(alloc, &domain)? {
-        return Err(PddlFault::NotYet);
-    }
-    Ok(domain)
+    let list = text_tree(alloc, text)?;
+    domain(alloc, text, list.at, &list.items)
 }
 
-/// Reads a problem of the first form: the sections `:domain`, `:init` and `:goal`, in this order,
-/// without objects, where the goal is `(and <hypothesis>)`. `NotYet` says that the text spells no
-/// such problem. The place `at` of a name is the number of bytes of `text` before it.
+/// Reads a problem. The place `at` of a name is the number of bytes of `text` before its word. Faulty
+/// bytes come first, then brackets, and then the first faulty item in text order.
 pub fn read_problem(alloc: Global, text: &[u8]) -> Result<Problem, PddlFault>
     requires { length text.now ≤ 2 ^ 20 }
     ensures spelled { IfOk result (λ p. IsProblemText text.now p) }
-    ensures only { IfOk result (λ p. (e : PlainProblem) → IsProblemText text.now e → e ≡ p) }
-    ensures not_yet { result ≡ Err PddlFault.NotYet → (e : PlainProblem) → IsProblemText text.now e → ⊥ }
+    ensures fault { (f : PddlFault) → result ≡ Err f
+        → (f ≡ PddlFault.OutOfMemory) ⊎ IsTextFault Document.Problem text.now f }
+    ensures exactly { (p : PlainProblem) → IsProblemText text.now p
+        → (result ≡ Ok p) ⊎ (result ≡ Err PddlFault.OutOfMemory) }
+    ensures fault_exactly { (f : PddlFault) → IsTextFault Document.Problem text.now f
+        → (result ≡ Err f) ⊎ (result ≡ Err PddlFault.OutOfMemory) }
 {
-    let tokens = tokens(alloc, text)?;
-    problem_of(alloc, &tokens)
+    let list = text_tree(alloc, text)?;
+    problem(alloc, text, list.at, &list.items)
 }

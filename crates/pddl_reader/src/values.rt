@@ -10,14 +10,15 @@ pub struct Name {
 
 impl Model for Name {
     ghost use Rattle.std.specs.Prelude.{string_bytes};
-    ghost use Rattle.pddl_reader.specs.Words.{Word};
+    ghost use Rattle.pddl_reader.specs.Forms.{Word};
 
     ghost Value = { Word };
 
     ghost view = { λ n. record { text = string_bytes n.text; at = n.at } };
 }
 
-/// A name with its types. More than one type stands for `either`.
+/// A name, or a variable with its question mark, and its types. More than one type stands for
+/// `either`. Where no type is written, the type is `object`, at the place of the name.
 #[derive(Debug, Drop)]
 pub struct TypedName {
     pub name: Name,
@@ -35,7 +36,7 @@ impl Model for TypedName {
 /// A term of a literal.
 #[derive(Debug, Drop)]
 pub enum Term {
-    /// The name without its question mark.
+    /// The name begins with its question mark.
     Variable(Name),
     Constant(Name),
 }
@@ -49,11 +50,13 @@ pub struct Literal {
 }
 
 impl Model for Literal {
+    ghost use Rattle.std.specs.Prelude.{map};
     ghost use Rattle.pddl_reader.specs.Values.{PlainLiteral};
+    ghost use Rattle.pddl_reader.specs.Terms.{plain_term};
 
     ghost Value = { PlainLiteral };
 
-    ghost view = { λ l. record { positive = l.positive; predicate = l.predicate; terms = l.terms.items } };
+    ghost view = { λ l. record { positive = l.positive; predicate = l.predicate; terms = map plain_term l.terms.items } };
 }
 
 /// An action of a domain. Its literals stand in text order.

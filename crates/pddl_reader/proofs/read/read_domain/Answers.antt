@@ -1,46 +1,75 @@
-use Rattle.std.proofs.Common.{◌≡◌, ◌∙◌, List, true, false, Err, ap, sym, subst}
-use Rattle.pddl_reader.specs.Words.{AreWords}
-use Rattle.pddl_reader.specs.Values.{PlainDomain}
-use Rattle.pddl_reader.specs.Spelling.{Item, AllFit, SpellsDomain, IsFirstForm, IsDomainText}
-use Rattle.pddl_reader.specs.Tokens.{words_of}
-use Rattle.pddl_reader.proofs.Exits.{passed_on}
-use Rattle.pddl_reader.proofs.Texts.{domain_by_words}
-use Rattle.pddl_reader.proofs.Lengths.{few_actions}
+use Rattle.std.proofs.Common.{length, arith, inr, sym, ap, ◌∙◌, subst}
+use Rattle.std.proofs.lemmas.List.{length-map}
+use Rattle.std.proofs.lemmas.Result.{IfOk-weaker}
+use Rattle.pddl_reader.specs.declared.kinds.Document.TheVariants.{Domain as OfDomain}
+use Rattle.pddl_reader.specs.Faults.{IsDocumentFault}
+use Rattle.pddl_reader.specs.Forms.{form_of, form_at}
+use Rattle.pddl_reader.specs.Items.{forms_at}
+use Rattle.pddl_reader.specs.Reading.{domain_in}
+use Rattle.pddl_reader.specs.Spelling.{IsDomain}
+use Rattle.pddl_reader.proofs.Counts.{few_actions}
+use Rattle.pddl_reader.proofs.DocumentLaws.{domain_spells, domain_reads, domain_faults}
+use Rattle.pddl_reader.proofs.DocumentFails.{domain_fails}
+use Rattle.pddl_reader.proofs.FormFaults.{on_domain}
+use Rattle.pddl_reader.proofs.TextFaults.{passed_exactly, if_left, answered_exactly}
+use Rattle.pddl_reader.proofs.TextLemmas.{passed_memory, passed_fault, if_read, tree_form, answered, answered_fault}
 use Rattle.pddl_reader.proofs.read.read_domain.Goals as goal
-use Rattle.pddl_reader.proofs.read.read_domain.Goals.{After-deref, In_ok-domain}
 
--- what the text spells, by the words that were found
-by_words : (c : After-deref) (e : PlainDomain) → IsDomainText c.args.text.now e → (items : List Item) × AllFit items (words_of c.deref.result.now) × SpellsDomain e items
-by_words c = domain_by_words c.args.text.now (words_of c.deref.result.now)
-    (λ others are_words. c.in_ok-tokens.ensures.only others are_words ∙ sym (ap words_of c.deref.ensures.value))
+pub returns-in_err-list-clause-fault : goal.returns-in_err-list-clause-fault
+returns-in_err-list-clause-fault c = passed_fault OfDomain c.args.text.now c.from_residual.result c.in_err-list.field-0.0 c.from_residual.ensures.1 c.in_err-list.ensures.fault
 
-pub returns-in_err-tokens-clause-not_yet : goal.returns-in_err-tokens-clause-not_yet
-returns-in_err-tokens-clause-not_yet c =
-    λ not_yet e t. c.in_err-tokens.ensures.not_yet (ap (λ f. Err f) (passed_on _ _ c.from_residual.ensures.1 not_yet)) t.words t.are_words
+pub returns-in_err-list-clause-exactly : goal.returns-in_err-list-clause-exactly
+returns-in_err-list-clause-exactly c = λ value h. inr (passed_memory c.from_residual.result c.in_err-list.field-0.0 c.from_residual.ensures.1 (c.in_err-list.ensures.only h.form h.is_form))
 
-pub returns-in_err-domain-clause-not_yet : goal.returns-in_err-domain-clause-not_yet
-returns-in_err-domain-clause-not_yet c =
-    λ not_yet e t.
-    let s = by_words (goal.at.returns-in_err-domain-clause-not_yet c).After-deref e t in
-    c.in_err-domain.ensures.not_yet (ap (λ f. Err f) (passed_on _ _ c.from_residual-in_err-domain.ensures.1 not_yet)) e s.0 s.1 s.2
+pub returns-in_err-list-clause-fault_exactly : goal.returns-in_err-list-clause-fault_exactly
+returns-in_err-list-clause-fault_exactly c = λ f h. passed_exactly c.from_residual.result c.in_err-list.field-0.0 f c.from_residual.ensures.1 (c.in_err-list.ensures.fault_exactly OfDomain f h)
 
-pub returns-then-not-branch-clause-not_yet : goal.returns-then-not-branch-clause-not_yet
-returns-then-not-branch-clause-not_yet c =
-    λ _ e t.
-    let s = by_words (goal.at.returns-then-not-branch-clause-not_yet c).After-deref e t in
-    let same = c.in_ok-domain.ensures.only e s.0 s.1 s.2 in
-    let form = c.in_ok-is_first_form.ensures.1 (subst IsFirstForm same t.form) in
-    let both : true ≡ false = sym form ∙ c.if-not-branch.true in
-    cc
-
-pub returns-clause-only : goal.returns-clause-only
-returns-clause-only c =
-    λ e t.
-    let s = by_words (goal.at.returns-clause-only c).After-deref e t in
-    c.in_ok-domain.ensures.only e s.0 s.1 s.2
+pub returns-clause-spelled : goal.returns-clause-spelled
+returns-clause-spelled c =
+    let text = c.args.text.now in
+    let list = c.in_ok-list.list in
+    let forms = forms_at text c.deref.result.now in
+    IfOk-weaker c.domain.result _ _
+    (λ value e. record {
+      form = form_of text list;
+      is_form = c.in_ok-list.ensures.form;
+      is_domain = subst (λ form. IsDomain form value) (sym (tree_form text list c.deref.result.now c.deref.ensures.value)) (domain_spells list.at forms value e);
+    })
+    c.domain.ensures.read
 
 pub returns-clause-few_actions : goal.returns-clause-few_actions
 returns-clause-few_actions c =
-    let are_words = subst (AreWords c.args.text.now) (sym (ap words_of c.deref.ensures.value)) c.in_ok-tokens.ensures.found in
-    let found = c.in_ok-domain.ensures.found in
-    few_actions c.args.text.now (words_of c.deref.result.now) are_words c.in_ok-domain.domain found.0 found.1 found.2
+    let text = c.args.text.now in
+    let list = c.in_ok-list.list in
+    let forms = forms_at text c.deref.result.now in
+    let counts = length-map c.deref.result.now (form_at text) in
+    let items = ap length c.deref.ensures.value in
+    IfOk-weaker c.domain.result _ _
+    (λ d e. let fewer = few_actions list.at forms d (domain_spells list.at forms d e) in omega (arith, c.in_ok-list.ensures.few))
+    c.domain.ensures.read
+
+pub returns-clause-fault : goal.returns-clause-fault
+returns-clause-fault c =
+    let text = c.args.text.now in
+    let list = c.in_ok-list.list in
+    let forms = forms_at text c.deref.result.now in
+    answered_fault OfDomain text (form_of text list) (domain_in list.at forms) c.domain.result c.in_ok-list.ensures.form (on_domain list.at forms)
+    (λ fault e. subst (λ form. IsDocumentFault OfDomain form fault) (sym (tree_form text list c.deref.result.now c.deref.ensures.value)) (domain_faults list.at forms fault e))
+    c.domain.ensures.fault
+
+pub returns-clause-exactly : goal.returns-clause-exactly
+returns-clause-exactly c = λ value h.
+    let text = c.args.text.now in
+    let list = c.in_ok-list.list in
+    let forms = forms_at text c.deref.result.now in
+    let same = if_read list _ (c.in_ok-list.ensures.only h.form h.is_form) ∙ tree_form text list c.deref.result.now c.deref.ensures.value in
+    answered (domain_in list.at forms) c.domain.result value c.domain.ensures.read c.domain.ensures.fault (domain_reads list.at forms value (subst (λ form. IsDomain form value) same h.is_domain))
+
+pub returns-clause-fault_exactly : goal.returns-clause-fault_exactly
+returns-clause-fault_exactly c = λ f h.
+    let text = c.args.text.now in
+    let list = c.in_ok-list.list in
+    let forms = forms_at text c.deref.result.now in
+    let bad = if_left list _ _ (c.in_ok-list.ensures.fault_exactly OfDomain f h) in
+    answered_exactly (domain_in list.at forms) c.domain.result f c.domain.ensures.read c.domain.ensures.fault
+    (domain_fails list.at forms f (subst (λ form. IsDocumentFault OfDomain form f) (tree_form text list c.deref.result.now c.deref.ensures.value) bad))

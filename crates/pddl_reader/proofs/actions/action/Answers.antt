@@ -1,0 +1,4 @@
+use Rattle.pddl_reader.proofs.actions.action.Goals as goal
+
+pub name-requires : goal.name-requires
+name-requires c = c.in_ok-item.ensures.found.over_item c.args.text.now c.requires

@@ -1,5 +1,0 @@
-use Rattle.pddl_reader.proofs.Cursors.{is_name_by}
-use Rattle.pddl_reader.proofs.parse.cursor.is_name.Goals as goal
-
-pub returns-then-first-ne45-clause-name : goal.returns-then-first-ne45-clause-name
-returns-then-first-ne45-clause-name c = is_name_by c.args.text.now c.in-Some.first.now c.in-Some.ensures.value c.if-first-ne45.true c.are_name_bytes.result c.are_name_bytes.ensures.each
