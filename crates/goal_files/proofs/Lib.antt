@@ -1,3 +1,4 @@
+pub mod NameLemmas
 pub mod Cuts
 pub mod Marks
 pub mod Readings

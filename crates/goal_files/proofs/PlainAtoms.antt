@@ -10,7 +10,7 @@ use Rattle.goal_files.specs.Reading.{IsPlainAtom, ArePlainAtoms}
 use Rattle.goal_files.proofs.Readings.{only_atoms}
 
 abbrev IsDeclaredName : PlainDomain → List ℕ → Type 0
-IsDeclaredName d name = Any (λ q. q.name.text ≡ name) d.predicates
+IsDeclaredName d name = Any (λ q. (q.name.text ≡ name) × (q.parameters ≡ [])) d.predicates
 
 abbrev Atoms : Type 0
 Atoms = List (List (List ℕ))

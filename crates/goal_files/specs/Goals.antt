@@ -9,11 +9,11 @@ use Rattle.goal_files.specs.declared.faults.GoalFault.TheVariants.{Shape, Unknow
 abbrev pub plain_atoms : List (List ℕ) → List (List (List ℕ))
 plain_atoms names = map (λ name. name ∷ []) names
 
--- each name is a predicate of the domain
+-- each name is a predicate of the domain without parameters: an atom without arguments fits no other
 abbrev pub AreDeclared : PlainDomain → List (List ℕ) → Type 0
-AreDeclared d names = All (λ name. Any (λ q. q.name.text ≡ name) d.predicates) names
+AreDeclared d names = All (λ name. Any (λ q. (q.name.text ≡ name) × (q.parameters ≡ [])) d.predicates) names
 
--- the line spells this goal: atoms of the domain's predicates, without arguments
+-- the line spells this goal: atoms without arguments, of the domain's predicates without parameters
 abbrev pub SpellsGoal : PlainDomain → List ℕ → List (List ℕ) → Type 0
 SpellsGoal d line goal = IsGoalLine line (plain_atoms goal) × AreDeclared d goal
 
@@ -43,7 +43,8 @@ pub record IsFirstFaulty (d : PlainDomain) (text : List ℕ) (number : ℕ) (P :
 abbrev pub HasNoAtoms : List ℕ → Type 0
 HasNoAtoms line = (atoms : List (List (List ℕ))) → IsGoalLine line atoms → ⊥
 
--- the line spells atoms, and one of them is none of the domain's
+-- the line spells atoms, and one of them has arguments or is of no predicate of the domain without
+-- parameters
 abbrev pub HasUnknownAtom : PlainDomain → List ℕ → Type 0
 HasUnknownAtom d line =
     ((atoms : List (List (List ℕ))) × IsGoalLine line atoms)

@@ -85,9 +85,9 @@ whole_atoms [] names = None
 whole_atoms (atom ∷ atoms) None = Some (atom ∷ atoms)
 whole_atoms (atom ∷ atoms) (Some names) = None
 
--- the atom has this predicate of the domain, and no objects
+-- the atom has this predicate of the domain, which has no parameters, and no objects
 abbrev pub IsPlainAtom : PlainDomain → List (List ℕ) → List ℕ → Type 0
-IsPlainAtom d atom name = (atom ≡ name ∷ []) × Any (λ q. q.name.text ≡ name) d.predicates
+IsPlainAtom d atom name = (atom ≡ name ∷ []) × Any (λ q. (q.name.text ≡ name) × (q.parameters ≡ [])) d.predicates
 
 -- the atoms are those of this goal
 abbrev pub ArePlainAtoms : PlainDomain → List (List (List ℕ)) → List (List ℕ) → Type 0

@@ -11,7 +11,7 @@ use crate::pieces::is_skipped;
 use crate::predicates::Predicates;
 use std::alloc::{AllocError, Global};
 
-/// The predicate of an atom without objects, where the domain has it.
+/// The predicate of an atom without objects, where the domain has it without parameters.
 fn plain_name(predicates: &Predicates<'_>, mut atom: Vec<String>) -> Option<String>
     ensures { MatchOption result
         ((name : List ℕ) → IsPlainAtom predicates.now (map string_bytes atom.items) name → ⊥)
@@ -24,7 +24,7 @@ fn plain_name(predicates: &Predicates<'_>, mut atom: Vec<String>) -> Option<Stri
     Some(name)
 }
 
-/// The goal of atoms, where each is a predicate of the domain without objects.
+/// The goal of atoms, where each has no objects, and a predicate of the domain without parameters.
 fn goal_of(
     alloc: Global,
     predicates: &Predicates<'_>,

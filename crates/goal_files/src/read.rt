@@ -30,8 +30,8 @@ fn some_goals(alloc: Global, domain: &Domain, text: &[u8]) -> Result<Vec<Goal>, 
     Ok(goals)
 }
 
-/// The goals that a text spells over a domain whose predicates have no parameters, in the order of its
-/// lines. The first line that is at fault decides; then that there is no goal, or more than 32.
+/// The goals that a text spells over a domain, in the order of its lines. The first line that is at
+/// fault decides; then that there is no goal, or more than 32.
 pub fn read_goals(alloc: Global, domain: &Domain, text: &[u8]) -> Result<Vec<Goal>, GoalFault>
     requires { length text.now ≤ 2 ^ 20 }
     ensures spelled { IfOk result (λ goals. SpellsGoals domain.now text.now goals.items) }

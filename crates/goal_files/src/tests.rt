@@ -2,7 +2,7 @@ use super::*;
 use pddl_reader::{Domain, read_domain};
 use std::test::Fail;
 
-const DOMAIN: &[u8] = b"(define (domain d) (:predicates (at-x) (b_2) (c))\n\
+const DOMAIN: &[u8] = b"(define (domain d) (:predicates (at-x) (b_2) (c) (q ?x))\n\
 (:action t :parameters () :precondition (at-x) :effect (and (c))))";
 
 fn domain(rt: &HostRuntime) -> Result<Domain, Fail> {
@@ -30,7 +30,7 @@ fn goals_are_read_in_the_order_of_their_lines(rt: HostRuntime) -> Result<(), Fai
 #[test]
 fn first_faulty_line_decides(rt: HostRuntime) -> Result<(), Fail> {
     let domain = domain(&rt)?;
-    let cases: [(&[u8], GoalFault); 21] = [
+    let cases: [(&[u8], GoalFault); 23] = [
         (b"c", GoalFault::Shape(1)),
         (b"(c", GoalFault::Shape(1)),
         (b")(c)", GoalFault::Shape(1)),
@@ -44,6 +44,8 @@ fn first_faulty_line_decides(rt: HostRuntime) -> Result<(), Fail> {
         (b"(cc)", GoalFault::UnknownAtom(1)),
         (b"(c,b_2)", GoalFault::UnknownAtom(1)),
         (b"(c at-x)(c)", GoalFault::UnknownAtom(1)),
+        (b"(q)", GoalFault::UnknownAtom(1)),
+        (b"(q a)", GoalFault::UnknownAtom(1)),
         (b"(d)(c", GoalFault::Shape(1)),
         (b"(d)\n(c", GoalFault::UnknownAtom(1)),
         (b"(c\n(d)", GoalFault::Shape(1)),
