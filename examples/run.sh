@@ -25,16 +25,28 @@ check() {
     fi
 }
 
+# check_files WANTED-ERROR-LINE DOMAIN PROBLEM
+check_files() {
+    check 1 /dev/null "$1" cost --domain "$2" --problem "$3" --goals "$fork/goals.txt"
+}
+
 fork=../../examples/fork
 keep=../../examples/keep
-for files in "$fork" "$keep"; do
+loose=../../examples/loose
+refused=../../examples/refused
+for files in "$fork" "$keep" "$loose"; do
     check 0 "$files/expected.txt" "" cost --domain "$files/domain.pddl" --problem "$files/problem.pddl" --goals "$files/goals.txt"
 done
 on_fork=(--domain "$fork/domain.pddl" --problem "$fork/problem.pddl")
 check 0 "$fork/expected_wcd.txt" "" wcd "${on_fork[@]}" --goals "$fork/two_goals.txt"
 check 0 "$fork/expected_wcd.txt" "" wcd --max-states=5 "${on_fork[@]}" "--goals=$fork/two_goals.txt"
 
-check 1 /dev/null "grd: problem: not yet read" cost --domain "$fork/domain.pddl" --problem "$keep/problem.pddl" --goals "$fork/goals.txt"
+check_files "grd: domain: empty" /dev/null "$fork/problem.pddl"
+check_files "grd: domain: byte 0: unclosed" "$refused/unclosed.pddl" "$fork/problem.pddl"
+check_files "grd: domain: byte 38: unsupported numeric effect" "$refused/numeric_effect.pddl" "$fork/problem.pddl"
+check_files "grd: problem: byte 0: unclosed" "$refused/typed.pddl" "$refused/unclosed.pddl"
+check_files "grd: domain: not yet read" "$refused/typed.pddl" "$keep/problem.pddl"
+check_files "grd: problem: not yet read" "$fork/domain.pddl" "$keep/problem.pddl"
 check 1 /dev/null "grd: goals: line 3: unknown atom" wcd "${on_fork[@]}" --goals "$fork/unknown_atom.txt"
 check 2 /dev/null "grd: usage: no command"
 check 2 /dev/null "grd: usage: missing --problem" cost --domain "$fork/domain.pddl"

@@ -12,11 +12,12 @@ use Rattle.pddl_reader.specs.Spelling.{IsDomainText, IsProblemText}
 use Rattle.goal_files.specs.Goals.{SpellsGoals}
 use Rattle.grd_program.specs.declared.status.Status.{Status}
 use Rattle.grd_program.specs.declared.status.Status.TheVariants.{Done, Refused, Usage, Limit, ReadFailed, WriteFailed, OutOfMemory}
-use Rattle.grd_program.specs.declared.status.Refusal.TheVariants.{NotYet, TooLong, Goals as OfGoals}
+use Rattle.grd_program.specs.declared.status.Refusal.TheVariants.{NotYet, TooLong, Pddl, Goals as OfGoals}
 use Rattle.grd_program.specs.declared.status.LimitFault.TheVariants.{States}
 use Rattle.grd_program.specs.Commands.{PlainJob}
-use Rattle.grd_program.specs.Worlds.{FitsDomain, world_of, spelled_task}
-use Rattle.grd_program.specs.Causes.{HasText, LacksText, SpellsOnlyGoals, HasOnlyFault}
+use Rattle.grd_program.specs.Forms.{IsFirstForm, FitsDomain}
+use Rattle.grd_program.specs.Worlds.{world_of, spelled_task}
+use Rattle.grd_program.specs.Causes.{HasText, FailsDomain, FailsProblem, SpellsOnlyGoals, HasOnlyFault}
 use Rattle.grd_program.specs.Runs.{SpellsOnly, HasWorld, HasNoFault, HasFilesCause, HasCause, MayBecome, MeetsLimit, IsComplete}
 
 -- the value that a file spells is the one that was taken
@@ -24,10 +25,6 @@ taken : {V : Type 0} (Spells : List ℕ → V → Type 0) (told : Told) (text : 
     → told ≡ Some (Some text) → Spells text x → HasText told (SpellsOnly Spells y) → x ≡ y
 taken Spells told text x y there spelled has =
     (subst (λ t. HasText t (SpellsOnly Spells y)) there has).1.1 x spelled
-
--- a file that spells a value is not one that lacks it
-spells : (P : List ℕ → Type 0) (told : Told) (text : List ℕ) → told ≡ Some (Some text) → length text ≤ 2 ^ 20 → P text → LacksText told P → ⊥
-spells P told text there short p lacks = subst (λ t. LacksText t P) there lacks short p
 
 -- a file of the text is not longer
 short_file : (told : Told) (text : List ℕ) (limit : ℕ) → told ≡ Some (Some text) → length text ≤ 2 ^ 20 → limit ≡ 2 ^ 20 → IsLongerFile told limit → ⊥
@@ -49,27 +46,37 @@ pub files_complete : (told : List ℕ → Told) (before now : List ℕ → Bool 
 files_complete told before now job ob on d p goals w f few Done h = inl refl
 files_complete told before now job ob on d p goals w f few (Usage fault) h = absurd h
 files_complete told before now job ob on d p goals w f few (Refused (NotYet Domain)) h =
-    absurd (spells (λ text. (e : PlainDomain) × IsDomainText text e) (told job.domain) w.domain_text w.domain_there w.domain_short (d, w.spelled.domain) h.1)
+    let same : d ≡ h.1 = taken IsDomainText (told job.domain) w.domain_text d h.1 w.domain_there w.spelled.domain h.3 in
+    absurd (h.5 (subst IsFirstForm same w.spelled.form))
 files_complete told before now job ob on d p goals w f few (Refused (NotYet Problem)) h =
-    let same : d ≡ h.1 = taken IsDomainText (told job.domain) w.domain_text d h.1 w.domain_there w.spelled.domain h.2 in
-    absurd (spells (λ text. (q : PlainProblem) × IsProblemText text q × FitsDomain h.1 q) (told job.problem) w.problem_text w.problem_there w.problem_short
-    (p, w.spelled.problem, subst (λ e. FitsDomain e p) same w.spelled.fits) h.3)
+    let same : d ≡ h.1 = taken IsDomainText (told job.domain) w.domain_text d h.1 w.domain_there w.spelled.domain h.3 in
+    let also : p ≡ h.2 = taken IsProblemText (told job.problem) w.problem_text p h.2 w.problem_there w.spelled.problem h.4 in
+    absurd (h.6 (subst (λ e. FitsDomain e h.2) same (subst (FitsDomain d) also w.spelled.fits)))
 files_complete told before now job ob on d p goals w f few (Refused (NotYet Goals)) h = absurd h
 files_complete told before now job ob on d p goals w f few (Refused (NotYet Observations)) h = absurd h
 files_complete told before now job ob on d p goals w f few (Refused (NotYet Certificate)) h = absurd h
+files_complete told before now job ob on d p goals w f few (Refused (TooLong Domain limit)) h =
+    absurd (short_file (told job.domain) w.domain_text limit w.domain_there w.domain_short h.0 h.2)
+files_complete told before now job ob on d p goals w f few (Refused (TooLong Problem limit)) h =
+    absurd (short_file (told job.problem) w.problem_text limit w.problem_there w.problem_short h.0 h.4)
 files_complete told before now job ob on d p goals w f few (Refused (TooLong Goals limit)) h =
-    absurd (short_file (told job.goals) w.goals_text limit w.goals_there w.goals_short h.0 h.6)
-files_complete told before now job ob on d p goals w f few (Refused (TooLong Domain limit)) h = absurd h
-files_complete told before now job ob on d p goals w f few (Refused (TooLong Problem limit)) h = absurd h
+    absurd (short_file (told job.goals) w.goals_text limit w.goals_there w.goals_short h.0 h.5)
 files_complete told before now job ob on d p goals w f few (Refused (TooLong Observations limit)) h = absurd h
 files_complete told before now job ob on d p goals w f few (Refused (TooLong Certificate limit)) h = absurd h
+files_complete told before now job ob on d p goals w f few (Refused (Pddl Domain fault)) h =
+    absurd ((subst (λ t. HasText t (FailsDomain fault)) w.domain_there h.2).1.1 d w.spelled.domain)
+files_complete told before now job ob on d p goals w f few (Refused (Pddl Problem fault)) h =
+    absurd ((subst (λ t. HasText t (FailsProblem fault)) w.problem_there h.4).1.1 p w.spelled.problem)
+files_complete told before now job ob on d p goals w f few (Refused (Pddl Goals fault)) h = absurd h
+files_complete told before now job ob on d p goals w f few (Refused (Pddl Observations fault)) h = absurd h
+files_complete told before now job ob on d p goals w f few (Refused (Pddl Certificate fault)) h = absurd h
 files_complete told before now job ob on d p goals w f few (Refused (OfGoals fault)) h =
-    let same : d ≡ h.2 = taken IsDomainText (told job.domain) w.domain_text d h.2 w.domain_there w.spelled.domain h.4 in
-    let only : HasOnlyFault h.2 w.goals_text fault = (subst (λ t. HasText t (λ text. HasOnlyFault h.2 text fault)) w.goals_there h.6).1 in
+    let same : d ≡ h.2 = taken IsDomainText (told job.domain) w.domain_text d h.2 w.domain_there w.spelled.domain h.4.takes_domain in
+    let only : HasOnlyFault h.2 w.goals_text fault = (subst (λ t. HasText t (λ text. HasOnlyFault h.2 text fault)) w.goals_there h.5).1 in
     absurd (only.no_goals goals (subst (λ e. SpellsGoals e w.goals_text goals) same w.spelled.gives))
 files_complete told before now job ob on d p goals w f few (Limit (States g limit)) h =
-    let same : d ≡ h.1 = taken IsDomainText (told job.domain) w.domain_text d h.1 w.domain_there w.spelled.domain h.4.takes_domain in
-    let also : p ≡ h.2 = taken IsProblemText (told job.problem) w.problem_text p h.2 w.problem_there w.spelled.problem h.4.takes_problem.0 in
+    let same : d ≡ h.1 = taken IsDomainText (told job.domain) w.domain_text d h.1 w.domain_there w.spelled.domain h.4.world.takes_domain in
+    let also : p ≡ h.2 = taken IsProblemText (told job.problem) w.problem_text p h.2 w.problem_there w.spelled.problem h.4.world.takes_problem in
     let only : SpellsOnlyGoals h.1 w.goals_text h.3 = (subst (λ t. HasText t (λ text. SpellsOnlyGoals h.1 text h.3)) w.goals_there h.4.takes_goals).1 in
     let all : goals ≡ h.3 = only.only goals (subst (λ e. SpellsGoals e w.goals_text goals) same w.spelled.gives) in
     let meets : MeetsLimit job.limits.states (spelled_task d p goals) g limit =

@@ -16,17 +16,17 @@ use Rattle.grd_base.specs.declared.ids.ActionId.{ActionId}
 use Rattle.strips_model.specs.Values.{PlainTask}
 use Rattle.strips_model.specs.Common.{AreRight}
 use Rattle.grd_program.specs.declared.command.Command.TheVariants.{Wcd}
-use Rattle.grd_program.specs.Worlds.{FitsDomain, spelled_task}
+use Rattle.grd_program.specs.Forms.{IsFirstForm, FitsDomain}
+use Rattle.grd_program.specs.Worlds.{spelled_task}
 use Rattle.grd_program.specs.Reports.{action_names, IsWcdReport, IsReportOn}
-use Rattle.grd_program.specs.Causes.{HasText, LacksText, SpellsOnlyGoals}
+use Rattle.grd_base.specs.declared.roles.FileRole.{FileRole}
+use Rattle.pddl_reader.specs.declared.faults.PddlFault.{PddlFault}
+use Rattle.pddl_reader.specs.declared.faults.PddlFault.TheVariants.{Lex, Tree, Shape as PddlShape, Unsupported, DoubledSection, OutOfMemory as PddlMemory}
+use Rattle.grd_program.specs.declared.status.Status.{Status}
+use Rattle.grd_program.specs.declared.status.Status.TheVariants.{Refused, OutOfMemory}
+use Rattle.grd_program.specs.declared.status.Refusal.TheVariants.{Pddl}
+use Rattle.grd_program.specs.Causes.{HasText, SpellsOnlyGoals}
 use Rattle.grd_program.specs.Runs.{SpellsOnly, IsWorldReport, IsAnswerText, TakesFiles, ReadsOnly, HasOnlyUsageFault}
-
--- the text that was read lacks the property
-pub lacks : (told : Told) (bytes : List ℕ) (P : List ℕ → Type 0) → IsWholeFile told bytes → (P bytes → ⊥) → LacksText told P
-lacks None bytes P whole lack = tt
-lacks (Some file) bytes P whole lack =
-    let Q : Option (List ℕ) → Type 0 = λ f. IsSomeAnd f (λ text. length text ≤ 2 ^ 20 → P text → ⊥) in
-    subst Q (sym whole) (λ _ p. lack p)
 
 -- the text that was read has the property
 pub has : (told : Told) (bytes : List ℕ) (P : List ℕ → Type 0) → IsWholeFile told bytes → length bytes ≤ 2 ^ 20 → P bytes → HasText told P
@@ -35,22 +35,18 @@ has (Some file) bytes P whole short p =
     let Q : Option (List ℕ) → Type 0 = λ f. IsSomeAnd f (λ text. (length text ≤ 2 ^ 20) × P text) in
     subst Q (sym whole) (short, p)
 
--- a value that fails a test is no other value that passes it, where there is no other
-pub fails_alone : {V : Type 0} (S T : V → Type 0) (x : V) (b : Bool) → (IsTrue b ↔ T x) → b ≡ false → ((y : V) → S y → y ≡ x) → (y : V) → S y → T y → ⊥
-fails_alone S T x b decides off only y s t = absurd (false≢true (sym off ∙ decides.1 (subst T (only y s) t)))
-
 -- the report over files that are taken
 pub world_report : (command : Command) (dt pt gt : Told) (d : PlainDomain) (p : PlainProblem) (goals : List (List (List ℕ))) (text : List ℕ)
-    → HasText dt (SpellsOnly IsDomainText d) → HasText pt (SpellsOnly IsProblemText p) → FitsDomain d p
+    → HasText dt (SpellsOnly IsDomainText d) → HasText pt (SpellsOnly IsProblemText p) → IsFirstForm d → FitsDomain d p
     → HasText gt (λ t. SpellsOnlyGoals d t goals) → IsReportOn command d p goals text
     → IfSome dt (λ df. IfSome pt (λ pf. IfSome gt (λ gf. IsWorldReport command df pf gf text)))
-world_report command None pt gt d p goals text hd hp fit hg report = tt
-world_report command (Some df) None gt d p goals text hd hp fit hg report = tt
-world_report command (Some df) (Some pf) None d p goals text hd hp fit hg report = tt
-world_report command (Some None) (Some pf) (Some gf) d p goals text hd hp fit hg report = absurd hd
-world_report command (Some (Some dt)) (Some None) (Some gf) d p goals text hd hp fit hg report = absurd hp
-world_report command (Some (Some dt)) (Some (Some pt)) (Some None) d p goals text hd hp fit hg report = absurd hg
-world_report command (Some (Some dt)) (Some (Some pt)) (Some (Some gt)) d p goals text hd hp fit hg report = record {
+world_report command None pt gt d p goals text hd hp form fit hg report = tt
+world_report command (Some df) None gt d p goals text hd hp form fit hg report = tt
+world_report command (Some df) (Some pf) None d p goals text hd hp form fit hg report = tt
+world_report command (Some None) (Some pf) (Some gf) d p goals text hd hp form fit hg report = absurd hd
+world_report command (Some (Some dt)) (Some None) (Some gf) d p goals text hd hp form fit hg report = absurd hp
+world_report command (Some (Some dt)) (Some (Some pt)) (Some None) d p goals text hd hp form fit hg report = absurd hg
+world_report command (Some (Some dt)) (Some (Some pt)) (Some (Some gt)) d p goals text hd hp form fit hg report = record {
   domain_text = dt;
   problem_text = pt;
   goals_text = gt;
@@ -63,7 +59,7 @@ world_report command (Some (Some dt)) (Some (Some pt)) (Some (Some gt)) d p goal
   domain = d;
   problem = p;
   goals = goals;
-  spelled = record { domain = hd.1.0; problem = hp.1.0; fits = fit; gives = hg.1.spells };
+  spelled = record { domain = hd.1.0; problem = hp.1.0; form = form; fits = fit; gives = hg.1.spells };
   report = report;
 }
 
@@ -73,7 +69,7 @@ answer_text_is told words job d p goals text reads taken report = record {
   job = job;
   reads = reads;
   reports = world_report job.command (told job.domain) (told job.problem) (told job.goals) d p goals text
-      taken.takes_domain taken.takes_problem.0 taken.takes_problem.1 taken.takes_goals report;
+      taken.world.takes_domain taken.world.takes_problem taken.world.form taken.world.fits taken.takes_goals report;
 }
 
 pub ok_more : {T E : Type 0} (P Q : T → Type 0) (r : Result T E) → ((x : T) → P x → Q x) → IfOk r P → IfOk r Q
@@ -137,3 +133,34 @@ module _ (words : List (List ℕ)) (r : Result PlainJob WordsFault)
       none : (job : PlainJob) → (r ≡ Ok job) ⊎ (r ≡ Err NoMemory) → ⊥
       none job (inl e) = cc
       none job (inr e) = cc
+
+-- what a reading of a domain or a problem says by its clause, where it answers a value or a fault
+module _ {V : Type 0} (Spells : V → Type 0) (r : Result V PddlFault) (exactly : (x : V) → Spells x → (r ≡ Ok x) ⊎ (r ≡ Err PddlMemory)) where
+  pub only_value : (x : V) → r ≡ Ok x → (y : V) → Spells y → y ≡ x
+  only_value x is y s = one (exactly y s)
+    where
+      one : (r ≡ Ok y) ⊎ (r ≡ Err PddlMemory) → y ≡ x
+      one (inl e) = cc
+      one (inr e) = cc
+
+  pub no_value : (fault : PddlFault) → r ≡ Err fault → (fault ≡ PddlMemory → ⊥) → (y : V) → Spells y → ⊥
+  no_value fault is plain y s = none (exactly y s)
+    where
+      none : (r ≡ Ok y) ⊎ (r ≡ Err PddlMemory) → ⊥
+      none (inl e) = cc
+      none (inr e) = plain cc
+
+pub plain_fault : (F : PddlFault → Type 0) (fault : PddlFault) → (fault ≡ PddlMemory) ⊎ F fault → (fault ≡ PddlMemory → ⊥) → F fault
+plain_fault F fault (inl memory) plain = absurd (plain memory)
+plain_fault F fault (inr h) plain = h
+
+-- how a run ends by a fault of a domain or a problem
+pub pddl_cause : (P : Status → Type 0) (role : FileRole) (fault : PddlFault) (s : Status)
+    → (fault ≡ PddlMemory → s ≡ OutOfMemory) → ((fault ≡ PddlMemory → ⊥) → s ≡ Refused (Pddl role fault))
+    → P OutOfMemory → ((fault ≡ PddlMemory → ⊥) → P (Refused (Pddl role fault))) → P s
+pddl_cause P role PddlMemory s memory refused free caused = subst P (sym (memory refl)) free
+pddl_cause P role (Lex at) s memory refused free caused = subst P (sym (refused (λ e. cc))) (caused (λ e. cc))
+pddl_cause P role (Tree fault) s memory refused free caused = subst P (sym (refused (λ e. cc))) (caused (λ e. cc))
+pddl_cause P role (PddlShape at) s memory refused free caused = subst P (sym (refused (λ e. cc))) (caused (λ e. cc))
+pddl_cause P role (Unsupported at feature) s memory refused free caused = subst P (sym (refused (λ e. cc))) (caused (λ e. cc))
+pddl_cause P role (DoubledSection at) s memory refused free caused = subst P (sym (refused (λ e. cc))) (caused (λ e. cc))

@@ -8,3 +8,4 @@ pub mod WordsTable
 pub mod WordsItems
 pub mod WordsGiven
 pub mod WordsOnce
+pub mod FormLemmas

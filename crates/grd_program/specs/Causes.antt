@@ -1,24 +1,25 @@
 -- Why a file was not taken.
-use Rattle.std.specs.Prelude.{◌≡◌, ◌≢◌, ℕ, ◌^◌, ◌≤◌, Bool, false, List, length, IfSome, IsSomeAnd}
+use Rattle.std.specs.Prelude.{◌≡◌, ◌≢◌, ℕ, ◌^◌, ◌≤◌, Bool, false, List, length, Option, IfSome, IsSomeAnd}
 use Rattle.grd_io.specs.Bytes.{Told, IsLongerFile}
 use Rattle.grd_io.specs.Causes.{Rose}
 use Rattle.grd_base.specs.declared.roles.FileRole.{FileRole}
-use Rattle.grd_base.specs.declared.roles.FileRole.TheVariants.{Goals}
-use Rattle.pddl_reader.specs.Values.{PlainDomain}
+use Rattle.grd_base.specs.declared.roles.FileRole.TheVariants.{Domain, Problem, Goals}
+use Rattle.pddl_reader.specs.Values.{PlainDomain, PlainProblem}
+use Rattle.pddl_reader.specs.Spelling.{IsDomainText, IsProblemText}
+use Rattle.pddl_reader.specs.Faults.{IsDomainFault, IsProblemFault}
+use Rattle.pddl_reader.specs.declared.faults.PddlFault.{PddlFault}
+use Rattle.pddl_reader.specs.declared.faults.PddlFault.TheVariants.{OutOfMemory as PddlOutOfMemory}
 use Rattle.goal_files.specs.Goals.{SpellsGoals, IsGoalFault}
 use Rattle.goal_files.specs.declared.faults.GoalFault.{GoalFault}
 use Rattle.goal_files.specs.declared.faults.GoalFault.TheVariants.{OutOfMemory as GoalsOutOfMemory}
+use Rattle.grd_program.specs.Forms.{IsFirstForm, FitsDomain}
 use Rattle.grd_program.specs.declared.status.Status.{Status}
-use Rattle.grd_program.specs.declared.status.Status.TheVariants.{Refused, ReadFailed, OutOfMemory}
-use Rattle.grd_program.specs.declared.status.Refusal.TheVariants.{NotYet, TooLong, Goals as OfGoals}
+use Rattle.grd_program.specs.declared.status.Status.TheVariants.{Done, Refused, Usage, Limit, ReadFailed, WriteFailed, OutOfMemory}
+use Rattle.grd_program.specs.declared.status.Refusal.TheVariants.{NotYet, TooLong, Pddl, Goals as OfGoals}
 
 -- the file is there with at most 2^20 bytes, and its text has the property, where the shelf tells
 abbrev pub HasText : Told → (List ℕ → Type 0) → Type 0
 HasText told P = IfSome told (λ file. IsSomeAnd file (λ text. (length text ≤ 2 ^ 20) × P text))
-
--- the file is there, and not with at most 2^20 bytes that have the property, where the shelf tells
-abbrev pub LacksText : Told → (List ℕ → Type 0) → Type 0
-LacksText told P = IfSome told (λ file. IsSomeAnd file (λ text. length text ≤ 2 ^ 20 → P text → ⊥))
 
 -- no count of the shelf changed
 abbrev pub IsQuiet : (List ℕ → Bool → ℕ) → (List ℕ → Bool → ℕ) → Type 0
@@ -29,13 +30,40 @@ pub record OnlyRose (before now : List ℕ → Bool → ℕ) (name : List ℕ) :
   pub rose : Rose (before name false) (now name false)
   pub others : (x : List ℕ) (w : Bool) → (x ≡ name → w ≡ false → ⊥) → now x w ≡ before x w
 
--- what a status says of the file that was to be read: that its text lacks the property, where no
--- count changed, or that its count of failed readings rose
-abbrev pub HasFileCause : FileRole → Told → (List ℕ → Bool → ℕ) → (List ℕ → Bool → ℕ) → List ℕ → (List ℕ → Type 0) → Status → Type 0
-HasFileCause role told before now name P (Refused (NotYet named)) = (named ≡ role) × IsQuiet before now × LacksText told P
-HasFileCause role told before now name P (ReadFailed named) = (named ≡ role) × OnlyRose before now name
-HasFileCause role told before now name P OutOfMemory = Unit {0}
-HasFileCause role told before now name P status = ⊥
+-- what a status says of a file that could not be read: that it is too long, where no count changed, or
+-- that its count of failed readings rose
+abbrev pub HasReadCause : FileRole → Told → (List ℕ → Bool → ℕ) → (List ℕ → Bool → ℕ) → List ℕ → Status → Type 0
+HasReadCause role told before now name (Refused (TooLong named limit)) =
+    (named ≡ role) × (limit ≡ 2 ^ 20) × IsQuiet before now × IsLongerFile told limit
+HasReadCause role told before now name (ReadFailed named) = (named ≡ role) × OnlyRose before now name
+HasReadCause role told before now name OutOfMemory = Unit {0}
+HasReadCause role told before now name status = ⊥
+
+-- this is at fault in the text, which spells no domain, or no problem
+abbrev pub FailsDomain : PddlFault → List ℕ → Type 0
+FailsDomain fault text = IsDomainFault text fault × ((d : PlainDomain) → IsDomainText text d → ⊥)
+
+abbrev pub FailsProblem : PddlFault → List ℕ → Type 0
+FailsProblem fault text = IsProblemFault text fault × ((p : PlainProblem) → IsProblemText text p → ⊥)
+
+-- what a status says of the domain's or the problem's file: that its text is at fault, or that it could
+-- not be read
+abbrev pub HasDomainCause : Told → (List ℕ → Bool → ℕ) → (List ℕ → Bool → ℕ) → List ℕ → Status → Type 0
+HasDomainCause told before now name (Refused (Pddl Domain fault)) =
+    (fault ≢ PddlOutOfMemory) × IsQuiet before now × HasText told (FailsDomain fault)
+HasDomainCause told before now name status = HasReadCause Domain told before now name status
+
+abbrev pub HasProblemCause : Told → (List ℕ → Bool → ℕ) → (List ℕ → Bool → ℕ) → List ℕ → Status → Type 0
+HasProblemCause told before now name (Refused (Pddl Problem fault)) =
+    (fault ≢ PddlOutOfMemory) × IsQuiet before now × HasText told (FailsProblem fault)
+HasProblemCause told before now name status = HasReadCause Problem told before now name status
+
+-- what a status says of a domain and a problem that are not taken yet
+abbrev pub HasFormCause : PlainDomain → PlainProblem → Status → Type 0
+HasFormCause d p (Refused (NotYet Domain)) = IsFirstForm d → ⊥
+HasFormCause d p (Refused (NotYet Problem)) = IsFirstForm d × (FitsDomain d p → ⊥)
+HasFormCause d p OutOfMemory = Unit {0}
+HasFormCause d p status = ⊥
 
 -- the text spells these goals, and no others, and nothing in it is at fault
 pub record SpellsOnlyGoals (d : PlainDomain) (text : List ℕ) (goals : List (List (List ℕ))) : Type 0 where
@@ -49,11 +77,8 @@ pub record HasOnlyFault (d : PlainDomain) (text : List ℕ) (fault : GoalFault) 
   pub only : (other : GoalFault) → IsGoalFault d text other → other ≡ fault
   pub no_goals : (goals : List (List (List ℕ))) → SpellsGoals d text goals → ⊥
 
--- what a status says of the goals file: that it is too long or at fault, where no count changed, or
--- that its count of failed readings rose
+-- what a status says of the goals file: that it is at fault, or that it could not be read
 abbrev pub HasGoalsCause : Told → (List ℕ → Bool → ℕ) → (List ℕ → Bool → ℕ) → List ℕ → PlainDomain → Status → Type 0
-HasGoalsCause told before now name d (Refused (TooLong Goals limit)) = (limit ≡ 2 ^ 20) × IsQuiet before now × IsLongerFile told limit
-HasGoalsCause told before now name d (Refused (OfGoals fault)) = (fault ≢ GoalsOutOfMemory) × IsQuiet before now × HasText told (λ text. HasOnlyFault d text fault)
-HasGoalsCause told before now name d (ReadFailed Goals) = OnlyRose before now name
-HasGoalsCause told before now name d OutOfMemory = Unit {0}
-HasGoalsCause told before now name d status = ⊥
+HasGoalsCause told before now name d (Refused (OfGoals fault)) =
+    (fault ≢ GoalsOutOfMemory) × IsQuiet before now × HasText told (λ text. HasOnlyFault d text fault)
+HasGoalsCause told before now name d status = HasReadCause Goals told before now name status

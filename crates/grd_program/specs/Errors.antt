@@ -5,10 +5,16 @@ use Rattle.grd_base.specs.declared.roles.FileRole.{FileRole}
 use Rattle.grd_base.specs.declared.roles.FileRole.TheVariants.{Domain, Problem, Goals, Observations, Certificate}
 use Rattle.goal_files.specs.declared.faults.GoalFault.{GoalFault}
 use Rattle.goal_files.specs.declared.faults.GoalFault.TheVariants.{Shape, UnknownAtom, NoGoal, TooManyGoals, OutOfMemory as GoalsOutOfMemory}
+use Rattle.pddl_lexer.specs.declared.faults.TreeFault.{TreeFault}
+use Rattle.pddl_lexer.specs.declared.faults.TreeFault.TheVariants.{Nothing, TooDeep, Unopened, Trailing, Unclosed, OutOfMemory as TreeOutOfMemory}
+use Rattle.pddl_reader.specs.declared.faults.Feature.{Feature}
+use Rattle.pddl_reader.specs.declared.faults.Feature.TheVariants.{Requirement, Functions, Derived, Durative, Constraints, Metric, EitherOfNames, Disjunction, Implication, Quantifier, Conditional, Preference, NumericEffect, NumericCondition, Equality, NegativePrecondition, NegativeInit}
+use Rattle.pddl_reader.specs.declared.faults.PddlFault.{PddlFault}
+use Rattle.pddl_reader.specs.declared.faults.PddlFault.TheVariants.{Lex, Tree, Shape as PddlShape, Unsupported, DoubledSection, OutOfMemory as PddlOutOfMemory}
 use Rattle.grd_program.specs.declared.status.Status.{Status}
 use Rattle.grd_program.specs.declared.status.Status.TheVariants.{Done, Refused, Usage, Limit, ReadFailed, WriteFailed, OutOfMemory}
 use Rattle.grd_program.specs.declared.status.Refusal.{Refusal}
-use Rattle.grd_program.specs.declared.status.Refusal.TheVariants.{NotYet, TooLong, Goals as OfGoals}
+use Rattle.grd_program.specs.declared.status.Refusal.TheVariants.{NotYet, TooLong, Pddl, Goals as OfGoals}
 use Rattle.grd_program.specs.declared.status.UsageFault.{UsageFault}
 use Rattle.grd_program.specs.declared.status.UsageFault.TheVariants.{NoCommand, UnknownCommand, BadItem, Repeated, Missing, BadNumber}
 use Rattle.grd_program.specs.declared.status.LimitFault.TheVariants.{States}
@@ -39,10 +45,53 @@ goals_text NoGoal = codes "no goal"
 goals_text (TooManyGoals goals) = decimal goals ++ codes " goals, limit 32"
 goals_text GoalsOutOfMemory = []
 
+-- what a part of PDDL that is refused is called
+abbrev pub feature_text : Feature → List ℕ
+feature_text Requirement = codes "requirement"
+feature_text Functions = codes "functions"
+feature_text Derived = codes "derived predicate"
+feature_text Durative = codes "durative action"
+feature_text Constraints = codes "constraints"
+feature_text Metric = codes "metric"
+feature_text EitherOfNames = codes "either"
+feature_text Disjunction = codes "disjunction"
+feature_text Implication = codes "implication"
+feature_text Quantifier = codes "quantifier"
+feature_text Conditional = codes "conditional effect"
+feature_text Preference = codes "preference"
+feature_text NumericEffect = codes "numeric effect"
+feature_text NumericCondition = codes "numeric condition"
+feature_text Equality = codes "equality"
+feature_text NegativePrecondition = codes "negative precondition"
+feature_text NegativeInit = codes "negative initial atom"
+
+-- what is said of a place in a file
+abbrev pub place_text : ℕ → List ℕ → List ℕ
+place_text at what = codes "byte " ++ decimal at ++ codes ": " ++ what
+
+-- what is said of the brackets of a text
+abbrev pub tree_text : TreeFault → List ℕ
+tree_text Nothing = codes "empty"
+tree_text (TooDeep at) = place_text at (codes "too deep")
+tree_text (Unopened at) = place_text at (codes "unopened")
+tree_text (Trailing at) = place_text at (codes "trailing")
+tree_text (Unclosed at) = place_text at (codes "unclosed")
+tree_text TreeOutOfMemory = []
+
+-- what is said of a domain or a problem; a place is a byte number, from 0
+abbrev pub pddl_text : PddlFault → List ℕ
+pddl_text (Lex at) = place_text at (codes "bad byte")
+pddl_text (Tree fault) = tree_text fault
+pddl_text (PddlShape at) = place_text at (codes "shape")
+pddl_text (Unsupported at feature) = place_text at (codes "unsupported " ++ feature_text feature)
+pddl_text (DoubledSection at) = place_text at (codes "doubled section")
+pddl_text PddlOutOfMemory = []
+
 -- what is said of a file that is refused
 abbrev pub refusal_text : Refusal → List ℕ
 refusal_text (NotYet role) = role_text role ++ codes ": not yet read"
 refusal_text (TooLong role limit) = role_text role ++ codes ": longer than " ++ decimal limit ++ codes " bytes"
+refusal_text (Pddl role fault) = role_text role ++ codes ": " ++ pddl_text fault
 refusal_text (OfGoals fault) = codes "goals: " ++ goals_text fault
 
 -- goals are counted from 1 in the text
@@ -60,6 +109,7 @@ error_text OutOfMemory = codes "grd: out of memory\n"
 abbrev pub IsPlainRefusal : Refusal → Type 0
 IsPlainRefusal (NotYet role) = Unit {0}
 IsPlainRefusal (TooLong role limit) = Unit {0}
+IsPlainRefusal (Pddl role fault) = fault ≡ PddlOutOfMemory → ⊥
 IsPlainRefusal (OfGoals fault) = fault ≡ GoalsOutOfMemory → ⊥
 
 abbrev pub IsPlainStatus : Status → Type 0

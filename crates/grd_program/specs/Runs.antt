@@ -10,22 +10,25 @@ use Rattle.pddl_reader.specs.Values.{PlainDomain, PlainProblem}
 use Rattle.pddl_reader.specs.Spelling.{IsDomainText, IsProblemText}
 use Rattle.goal_files.specs.Goals.{SpellsGoals}
 use Rattle.goal_files.specs.declared.faults.GoalFault.TheVariants.{OutOfMemory as GoalsOutOfMemory}
+use Rattle.pddl_reader.specs.declared.faults.PddlFault.TheVariants.{OutOfMemory as PddlOutOfMemory}
 use Rattle.grd_program.specs.declared.command.Command.{Command}
 use Rattle.grd_program.specs.declared.status.Status.{Status}
 use Rattle.grd_program.specs.declared.status.Status.TheVariants.{Done, Refused, Usage, Limit, ReadFailed, WriteFailed, OutOfMemory}
-use Rattle.grd_program.specs.declared.status.Refusal.TheVariants.{NotYet, TooLong, Goals as OfGoals}
+use Rattle.grd_program.specs.declared.status.Refusal.TheVariants.{NotYet, TooLong, Pddl, Goals as OfGoals}
 use Rattle.grd_program.specs.declared.status.UsageFault.{UsageFault}
 use Rattle.grd_program.specs.declared.status.LimitFault.TheVariants.{States}
 use Rattle.grd_program.specs.Commands.{PlainJob, Reads, IsUsageFault}
-use Rattle.grd_program.specs.Worlds.{FitsDomain, spelled_task}
+use Rattle.grd_program.specs.Forms.{IsFirstForm, FitsDomain}
+use Rattle.grd_program.specs.Worlds.{spelled_task}
 use Rattle.grd_program.specs.Reports.{IsReportOn}
 use Rattle.grd_program.specs.Errors.{error_text}
-use Rattle.grd_program.specs.Causes.{HasText, LacksText, IsQuiet, OnlyRose, SpellsOnlyGoals, HasOnlyFault}
+use Rattle.grd_program.specs.Causes.{HasText, IsQuiet, OnlyRose, FailsDomain, FailsProblem, SpellsOnlyGoals, HasOnlyFault}
 
 -- the three texts spell a world with goals, whose atoms have no arguments
 pub record SpellWorld (domain_text problem_text goals_text : List ℕ) (d : PlainDomain) (p : PlainProblem) (goals : List (List (List ℕ))) : Type 0 where
   pub domain : IsDomainText domain_text d
   pub problem : IsProblemText problem_text p
+  pub form : IsFirstForm d
   pub fits : FitsDomain d p
   pub gives : SpellsGoals d goals_text goals
 
@@ -109,34 +112,47 @@ SpellsOnly {V} Spells x text = Spells text x × ((y : V) → Spells text y → y
 abbrev pub TakesDomain : (List ℕ → Told) → List ℕ → PlainDomain → Type 0
 TakesDomain told domain d = HasText (told domain) (SpellsOnly IsDomainText d)
 
-abbrev pub TakesProblem : (List ℕ → Told) → List ℕ → PlainDomain → PlainProblem → Type 0
-TakesProblem told problem d p = HasText (told problem) (SpellsOnly IsProblemText p) × FitsDomain d p
+abbrev pub TakesProblem : (List ℕ → Told) → List ℕ → PlainProblem → Type 0
+TakesProblem told problem p = HasText (told problem) (SpellsOnly IsProblemText p)
 
 abbrev pub TakesGoals : (List ℕ → Told) → List ℕ → PlainDomain → List (List (List ℕ)) → Type 0
 TakesGoals told goals_file d goals = HasText (told goals_file) (λ text. SpellsOnlyGoals d text goals)
 
+-- the domain and the problem of the job are taken, and are of the form that the commands take
+pub record TakesWorld (told : List ℕ → Told) (job : PlainJob) (d : PlainDomain) (p : PlainProblem) : Type 0 where
+  pub takes_domain : TakesDomain told job.domain d
+  pub takes_problem : TakesProblem told job.problem p
+  pub form : IsFirstForm d
+  pub fits : FitsDomain d p
+
 -- the three files of the job are taken
 pub record TakesFiles (told : List ℕ → Told) (job : PlainJob) (d : PlainDomain) (p : PlainProblem) (goals : List (List (List ℕ))) : Type 0 where
-  pub takes_domain : TakesDomain told job.domain d
-  pub takes_problem : TakesProblem told job.problem d p
+  pub world : TakesWorld told job d p
   pub takes_goals : TakesGoals told job.goals d goals
 
 -- why there is no report over these three files; each answer comes only where the files before it
 -- were taken
 abbrev pub HasFilesCause : (List ℕ → Told) → (List ℕ → Bool → ℕ) → (List ℕ → Bool → ℕ) → PlainJob → Status → Type 0
+HasFilesCause told before now job (Refused (TooLong Domain limit)) =
+    (limit ≡ 2 ^ 20) × IsQuiet before now × IsLongerFile (told job.domain) limit
+HasFilesCause told before now job (Refused (Pddl Domain fault)) =
+    (fault ≢ PddlOutOfMemory) × IsQuiet before now × HasText (told job.domain) (FailsDomain fault)
+HasFilesCause told before now job (Refused (TooLong Problem limit)) =
+    (limit ≡ 2 ^ 20) × IsQuiet before now × (d : PlainDomain) × TakesDomain told job.domain d × IsLongerFile (told job.problem) limit
+HasFilesCause told before now job (Refused (Pddl Problem fault)) =
+    (fault ≢ PddlOutOfMemory) × IsQuiet before now × (d : PlainDomain) × TakesDomain told job.domain d × HasText (told job.problem) (FailsProblem fault)
 HasFilesCause told before now job (Refused (NotYet Domain)) =
-    IsQuiet before now × LacksText (told job.domain) (λ text. (d : PlainDomain) × IsDomainText text d)
+    IsQuiet before now × (d : PlainDomain) × (p : PlainProblem) × TakesDomain told job.domain d × TakesProblem told job.problem p
+    × (IsFirstForm d → ⊥)
 HasFilesCause told before now job (Refused (NotYet Problem)) =
-    IsQuiet before now × (d : PlainDomain) × TakesDomain told job.domain d
-    × LacksText (told job.problem) (λ text. (p : PlainProblem) × IsProblemText text p × FitsDomain d p)
+    IsQuiet before now × (d : PlainDomain) × (p : PlainProblem) × TakesDomain told job.domain d × TakesProblem told job.problem p
+    × IsFirstForm d × (FitsDomain d p → ⊥)
 HasFilesCause told before now job (Refused (TooLong Goals limit)) =
     (limit ≡ 2 ^ 20) × IsQuiet before now
-    × (d : PlainDomain) × (p : PlainProblem) × TakesDomain told job.domain d × TakesProblem told job.problem d p
-    × IsLongerFile (told job.goals) limit
+    × (d : PlainDomain) × (p : PlainProblem) × TakesWorld told job d p × IsLongerFile (told job.goals) limit
 HasFilesCause told before now job (Refused (OfGoals fault)) =
     (fault ≢ GoalsOutOfMemory) × IsQuiet before now
-    × (d : PlainDomain) × (p : PlainProblem) × TakesDomain told job.domain d × TakesProblem told job.problem d p
-    × HasText (told job.goals) (λ text. HasOnlyFault d text fault)
+    × (d : PlainDomain) × (p : PlainProblem) × TakesWorld told job d p × HasText (told job.goals) (λ text. HasOnlyFault d text fault)
 HasFilesCause told before now job (Limit (States g limit)) =
     IsQuiet before now
     × (d : PlainDomain) × (p : PlainProblem) × (goals : List (List (List ℕ)))
@@ -145,8 +161,7 @@ HasFilesCause told before now job (ReadFailed Domain) = OnlyRose before now job.
 HasFilesCause told before now job (ReadFailed Problem) =
     ((d : PlainDomain) × TakesDomain told job.domain d) × OnlyRose before now job.problem
 HasFilesCause told before now job (ReadFailed Goals) =
-    ((d : PlainDomain) × (p : PlainProblem) × TakesDomain told job.domain d × TakesProblem told job.problem d p)
-    × OnlyRose before now job.goals
+    ((d : PlainDomain) × (p : PlainProblem) × TakesWorld told job d p) × OnlyRose before now job.goals
 HasFilesCause told before now job OutOfMemory = Unit {0}
 HasFilesCause told before now job status = ⊥
 

@@ -4,7 +4,6 @@ use Rattle.std.specs.Prelude.{◌≡◌, ℕ, Bool, not, List, map, filter, All}
 use Rattle.std.specs.List.{list_any}
 use Rattle.std.specs.Str.{bytes_eq}
 use Rattle.pddl_reader.specs.Values.{PlainLiteral, PlainSchema, PlainDomain, PlainProblem}
-use Rattle.pddl_reader.specs.Spelling.{IsDeclared}
 use Rattle.strips_model.specs.Values.{PlainTask}
 use Rattle.strips_model.specs.Worlds.{Instance, World, task_of}
 
@@ -41,8 +40,3 @@ world_of d p goals = record {
 
 abbrev pub spelled_task : PlainDomain → PlainProblem → List (List (List ℕ)) → PlainTask
 spelled_task d p goals = task_of bytes_eq (world_of d p goals)
-
--- the problem is for the domain, and starts from atoms of its predicates
-pub record FitsDomain (d : PlainDomain) (p : PlainProblem) : Type 0 where
-  pub same_name : p.domain.text ≡ d.name.text
-  pub declared : All (IsDeclared d) p.init

@@ -1,13 +1,14 @@
 ghost use Rattle.std.specs.Prelude.{◌≡◌, ℕ, ◌^◌, ◌<◌, ◌≤◌, List, [], length, map, All, Bool, IfSome, IfOk, IfErr, OnOk, string_bytes};
 ghost use Rattle.std.specs.Option.{option_map};
 ghost use Rattle.strips_model.specs.Common.{AreRight};
-ghost use Rattle.pddl_reader.specs.Spelling.{IsFirstForm};
+ghost use Rattle.grd_program.specs.Forms.{IsFirstForm};
 ghost use Rattle.grd_program.specs.Causes.{IsQuiet};
 ghost use Rattle.grd_program.specs.Reports.{action_names, IsWcdReport, IsReportOn};
 ghost use Rattle.grd_program.specs.Runs.{TakesFiles, IsAnswerText, ReadsOnly, HasWordsCause, HasFilesCause, HasInputCause, HasSearchCause, HasAnswerCause, HasPassed};
 
 use crate::command::Command;
 use crate::files::{domain_of, goals_of, problem_of};
+use crate::forms::check_forms;
 use crate::job::Job;
 use crate::report::{cost_report, wcd_report};
 use crate::status::{LimitFault, Status};
@@ -55,7 +56,8 @@ fn read_inputs<F: Shelf>(alloc: Global, shelf: &mut F, job: &Job) -> Result<Inpu
     ensures quiet { OnOk result (IsQuiet (F.faults shelf.old) (F.faults shelf.new)) }
 {
     let domain = domain_of(alloc, shelf, &job.domain)?;
-    let problem = problem_of(alloc, shelf, &job.problem, &domain)?;
+    let problem = problem_of(alloc, shelf, &job.problem)?;
+    check_forms(alloc, &domain, &problem)?;
     let goals = goals_of(alloc, shelf, &job.goals, &domain)?;
     Ok(Inputs {
         domain,

@@ -1,11 +1,12 @@
 ghost use Rattle.std.specs.Prelude.{◌≡◌, ◌++◌, IfOk, OnOk, string_bytes, codes};
 ghost use Rattle.std.specs.Fmt.{decimal};
-ghost use Rattle.grd_program.specs.Errors.{role_text, usage_text, goals_text, refusal_text, error_text, IsPlainRefusal, IsPlainStatus};
+ghost use Rattle.grd_program.specs.Errors.{role_text, usage_text, goals_text, feature_text, place_text, tree_text, pddl_text, refusal_text, error_text, IsPlainRefusal, IsPlainStatus};
 
 use crate::report::number_of;
 use crate::status::{LimitFault, Refusal, Status, Target, UsageFault};
 use goal_files::GoalFault;
 use grd_base::{FileRole, OutOfMemory};
+use pddl_reader::{Feature, PddlFault, TreeFault};
 use std::alloc::Global;
 use std::fmt::Write;
 
@@ -46,6 +47,7 @@ fn push_refusal(line: &mut String, refusal: &Refusal) -> Result<(), OutOfMemory>
     match refusal {
         Refusal::NotYet(role) => push_role(line, role, ": not yet read")?,
         Refusal::TooLong(role, limit) => push_too_long(line, role, *limit)?,
+        Refusal::Pddl(role, fault) => push_pddl(line, role, fault)?,
         Refusal::Goals(fault) => push_goals(line, fault)?,
     }
     line.push_str("\n")?;
@@ -71,6 +73,93 @@ fn push_too_long(line: &mut String, role: &FileRole, limit: u64) -> Result<(), O
     let name = name_of(role);
     write!(line, "{name}: longer than {limit} bytes")?;
     Ok(())
+}
+
+/// Writes what is at fault in a domain or a problem.
+fn push_pddl(line: &mut String, role: &FileRole, fault: &PddlFault) -> Result<(), OutOfMemory>
+    ensures { OnOk result
+        (string_bytes line.new ≡ string_bytes line.old ++
+        (role_text role.now ++ codes ": " ++ pddl_text fault.now)) }
+{
+    push_role(line, role, ": ")?;
+    push_pddl_fault(line, fault)
+}
+
+/// Writes what is at fault in a domain or a problem, by its place.
+fn push_pddl_fault(line: &mut String, fault: &PddlFault) -> Result<(), OutOfMemory>
+    ensures { OnOk result
+        (string_bytes line.new ≡ string_bytes line.old ++ pddl_text fault.now) }
+{
+    match fault {
+        PddlFault::Lex(at) => push_place(line, *at, "bad byte")?,
+        PddlFault::Tree(fault) => push_tree(line, fault)?,
+        PddlFault::Shape(at) => push_place(line, *at, "shape")?,
+        PddlFault::Unsupported(at, feature) => push_feature(line, *at, feature)?,
+        PddlFault::DoubledSection(at) => push_place(line, *at, "doubled section")?,
+        PddlFault::OutOfMemory => {}
+    }
+    Ok(())
+}
+
+/// Writes what is at fault in the brackets of a text.
+fn push_tree(line: &mut String, fault: &TreeFault) -> Result<(), OutOfMemory>
+    ensures { OnOk result
+        (string_bytes line.new ≡ string_bytes line.old ++ tree_text fault.now) }
+{
+    match fault {
+        TreeFault::Nothing => line.push_str("empty")?,
+        TreeFault::TooDeep(at) => push_place(line, *at, "too deep")?,
+        TreeFault::Unopened(at) => push_place(line, *at, "unopened")?,
+        TreeFault::Trailing(at) => push_place(line, *at, "trailing")?,
+        TreeFault::Unclosed(at) => push_place(line, *at, "unclosed")?,
+        TreeFault::OutOfMemory => {}
+    }
+    Ok(())
+}
+
+/// Writes what is at fault at a place.
+fn push_place(line: &mut String, at: u32, what: &str) -> Result<(), OutOfMemory>
+    ensures { OnOk result
+        (string_bytes line.new ≡ string_bytes line.old ++ place_text at what.now) }
+{
+    write!(line, "byte {at}: {what}")?;
+    Ok(())
+}
+
+/// Writes which part of PDDL is refused at a place.
+fn push_feature(line: &mut String, at: u32, feature: &Feature) -> Result<(), OutOfMemory>
+    ensures { OnOk result
+        (string_bytes line.new ≡ string_bytes line.old ++
+        place_text at (codes "unsupported " ++ feature_text feature.now)) }
+{
+    let name = feature_name(feature);
+    write!(line, "byte {at}: unsupported {name}")?;
+    Ok(())
+}
+
+/// What a part of PDDL that is refused is called in messages.
+fn feature_name(feature: &Feature) -> &'static str
+    ensures { result.now ≡ feature_text feature.now }
+{
+    match feature {
+        Feature::Requirement => "requirement",
+        Feature::Functions => "functions",
+        Feature::Derived => "derived predicate",
+        Feature::Durative => "durative action",
+        Feature::Constraints => "constraints",
+        Feature::Metric => "metric",
+        Feature::EitherOfNames => "either",
+        Feature::Disjunction => "disjunction",
+        Feature::Implication => "implication",
+        Feature::Quantifier => "quantifier",
+        Feature::Conditional => "conditional effect",
+        Feature::Preference => "preference",
+        Feature::NumericEffect => "numeric effect",
+        Feature::NumericCondition => "numeric condition",
+        Feature::Equality => "equality",
+        Feature::NegativePrecondition => "negative precondition",
+        Feature::NegativeInit => "negative initial atom",
+    }
 }
 
 /// Writes what is at fault in a goals file.

@@ -5,6 +5,7 @@ mod answer;
 mod command;
 mod errors;
 mod files;
+mod forms;
 mod job;
 mod names;
 mod report;

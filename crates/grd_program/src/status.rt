@@ -1,6 +1,7 @@
 use crate::command::OptionName;
 use goal_files::GoalFault;
 use grd_base::{FileRole, GoalId, OutOfMemory};
+use pddl_reader::PddlFault;
 
 /// How a run ended.
 #[derive(Clone, Copy, Debug, PartialEq, Eq)]
@@ -23,10 +24,12 @@ pub enum Status {
 /// Why a file is refused.
 #[derive(Clone, Copy, Debug, PartialEq, Eq)]
 pub enum Refusal {
-    /// The file is of a form that is not read yet.
+    /// The domain or the problem is of a form that the command does not take yet.
     NotYet(FileRole),
     /// The file has more than so many bytes.
     TooLong(FileRole, u64),
+    /// The domain's or the problem's text is at fault. The fault is never want of memory.
+    Pddl(FileRole, PddlFault),
     /// The goals file gives no goals. The fault is never want of memory.
     Goals(GoalFault),
 }

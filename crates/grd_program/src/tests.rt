@@ -147,6 +147,15 @@ const DOORS: &str = "(define (domain doors)
 const DOORS_START: &str = "(define (problem p) (:domain doors) (:init (outside) (open) (outside))
 (:goal (and <hypothesis>)))";
 
+/// Sections and parts in another order, some missing, and conditions that are nested or empty.
+const LOOSE: &str = "(define (domain loose) (:requirements :typing :strips)
+(:action top :effect (and () (and (high) (not (middle)))) :precondition (and (and (middle)) ()))
+(:action rest)
+(:action start :effect (middle))
+(:predicates (middle) (high)))";
+
+const LOOSE_START: &str = "(define (problem p) (:init) (:requirements :strips) (:domain loose))";
+
 #[test]
 fn costs_and_plans_are_printed(rt: HostRuntime) -> Result<(), Fail> {
     for (domain, problem, goals, report) in [
@@ -174,6 +183,12 @@ fn costs_and_plans_are_printed(rt: HostRuntime) -> Result<(), Fail> {
             DOORS_START,
             "(inside)(inside)\n(open) (inside)\n(shut) (inside)",
             "goals 3\ngoal 1 cost 1 (enter)\ngoal 2 cost 1 (enter)\ngoal 3 cost none\n",
+        ),
+        (
+            LOOSE,
+            LOOSE_START,
+            "(high)\n(high)(middle)",
+            "goals 2\ngoal 1 cost 2 (start) (top)\ngoal 2 cost 3 (start) (top) (start)\n",
         ),
     ] {
         let texts = Texts {
@@ -378,52 +393,134 @@ fn faulty_goals_files_are_told(rt: HostRuntime) -> Result<(), Fail> {
     Ok(())
 }
 
-const TYPED: &str = "(define (domain fork) (:types t) (:predicates (atl)))";
-
-const OBJECTS: &str =
-    "(define (problem p) (:domain fork) (:objects o) (:init) (:goal (and <hypothesis>)))";
-
-const ELSEWHERE: &str = "(define (problem p) (:domain spoon) (:init) (:goal (and <hypothesis>)))";
-
-const UNDECLARED: &str =
-    "(define (problem p) (:domain fork) (:init (at9)) (:goal (and <hypothesis>)))";
-
-#[test]
-fn first_refused_file_is_told(rt: HostRuntime) -> Result<(), Fail> {
-    for (domain, problem, goals, line) in [
-        (TYPED, FORK_START, "(atl)", "grd: domain: not yet read\n"),
-        ("", FORK_START, "(atl)", "grd: domain: not yet read\n"),
-        (FORK, OBJECTS, "(atl)", "grd: problem: not yet read\n"),
-        (FORK, ELSEWHERE, "(atl)", "grd: problem: not yet read\n"),
-        (FORK, UNDECLARED, "(atl)", "grd: problem: not yet read\n"),
-        (TYPED, OBJECTS, "(atq)", "grd: domain: not yet read\n"),
-        (TYPED, FORK_START, "", "grd: domain: not yet read\n"),
-        (FORK, OBJECTS, "(atq)", "grd: problem: not yet read\n"),
-    ] {
-        let texts = Texts {
-            domain,
-            problem,
-            goals,
-        };
-        let outcome = run_on(rt.alloc(), COST, texts, NO_FAILURE)?;
-        expect(&rt, COST, &outcome, 1, "", line);
-    }
-    Ok(())
-}
-
-/// The text with blanks behind it, of so many bytes.
-fn padded(alloc: Global, text: &str, bytes: usize) -> Result<String, AllocError> {
+/// The text with a character of one byte behind it, again and again, of so many bytes.
+fn padded(alloc: Global, text: &str, filler: char, bytes: usize) -> Result<String, AllocError> {
     let mut padded = String::from_str(alloc, text)?;
     for _ in text.len()..bytes {
-        padded.push(' ')?;
+        padded.push(filler)?;
     }
     Ok(padded)
 }
 
+/// Runs `cost` over these files and a goals file that is at fault.
+fn run_on_faults(alloc: Global, domain: &str, problem: &str) -> Result<Outcome, Fail> {
+    let texts = Texts {
+        domain,
+        problem,
+        goals: "",
+    };
+    run_on(alloc, COST, texts, NO_FAILURE)
+}
+
+const TYPED: &str = "(define (domain fork) (:types t) (:predicates (atl)))";
+
+const OBJECTS: &str = "(define (problem p) (:domain fork) (:objects o) (:init (at0)))";
+
+#[test]
+fn faulty_files_are_told_by_their_places(rt: HostRuntime) -> Result<(), Fail> {
+    let deep = padded(rt.alloc(), "", '(', 65)?;
+    for (domain, problem, line) in [
+        ("", FORK_START, "grd: domain: empty\n"),
+        (deep.as_str(), "", "grd: domain: byte 64: too deep\n"),
+        ("(define (domain d)", "", "grd: domain: byte 0: unclosed\n"),
+        (
+            "(define (domain d) (:action a :effect (increase (total-cost) 1)))",
+            FORK_START,
+            "grd: domain: byte 38: unsupported numeric effect\n",
+        ),
+        (TYPED, "; (define", "grd: problem: empty\n"),
+        (TYPED, ")", "grd: problem: byte 0: unopened\n"),
+        (
+            FORK,
+            "(define (problem \u{e9}))",
+            "grd: problem: byte 17: bad byte\n",
+        ),
+        (
+            FORK,
+            "(define (problem p)) (",
+            "grd: problem: byte 21: trailing\n",
+        ),
+        (
+            FORK,
+            "(define (problem p) (:domain fork))",
+            "grd: problem: byte 0: shape\n",
+        ),
+        (
+            FORK,
+            "(define (problem p) (:domain fork) (:init) (:init))",
+            "grd: problem: byte 43: doubled section\n",
+        ),
+    ] {
+        let outcome = run_on_faults(rt.alloc(), domain, problem)?;
+        expect(&rt, line, &outcome, 1, "", line);
+    }
+    Ok(())
+}
+
+#[test]
+fn first_file_that_is_not_yet_read_is_told(rt: HostRuntime) -> Result<(), Fail> {
+    for (domain, problem, file) in [
+        (TYPED, OBJECTS, "domain"),
+        ("(define (domain fork) (:types object))", OBJECTS, "domain"),
+        ("(define (domain fork) (:constants c))", OBJECTS, "domain"),
+        (
+            "(define (domain fork) (:predicates (p ?x)))",
+            OBJECTS,
+            "domain",
+        ),
+        (
+            "(define (domain fork) (:action a :parameters (?x)))",
+            OBJECTS,
+            "domain",
+        ),
+        (
+            "(define (domain fork) (:predicates (p) (P)))",
+            OBJECTS,
+            "domain",
+        ),
+        (
+            "(define (domain fork) (:action a) (:action A))",
+            OBJECTS,
+            "domain",
+        ),
+        (
+            "(define (domain fork) (:action a :effect (p)))",
+            OBJECTS,
+            "domain",
+        ),
+        (
+            "(define (domain fork) (:predicates (p)) (:action a :precondition (p c)))",
+            OBJECTS,
+            "domain",
+        ),
+        (FORK, OBJECTS, "problem"),
+        (
+            FORK,
+            "(define (problem p) (:domain spoon) (:init (at0)))",
+            "problem",
+        ),
+        (
+            FORK,
+            "(define (problem p) (:domain fork) (:init (at9)))",
+            "problem",
+        ),
+        (
+            FORK,
+            "(define (problem p) (:domain fork) (:init (at0 o)))",
+            "problem",
+        ),
+    ] {
+        let line = format!(in rt.alloc(); "grd: {file}: not yet read\n")?;
+        let outcome = run_on_faults(rt.alloc(), domain, problem)?;
+        expect(&rt, domain, &outcome, 1, "", line.as_str());
+    }
+    Ok(())
+}
+
 #[test]
 fn files_have_at_most_2_to_the_20_bytes(rt: HostRuntime) -> Result<(), Fail> {
-    let goals = padded(rt.alloc(), "(at1)", 1 << 20)?;
-    let domain = padded(rt.alloc(), FORK, 1 << 20)?;
+    let goals = padded(rt.alloc(), "(at1)", ' ', 1 << 20)?;
+    let domain = padded(rt.alloc(), FORK, ' ', 1 << 20)?;
     let longest = Texts {
         domain: domain.as_str(),
         problem: FORK_START,
@@ -432,19 +529,20 @@ fn files_have_at_most_2_to_the_20_bytes(rt: HostRuntime) -> Result<(), Fail> {
     let outcome = run_on(rt.alloc(), COST, longest, NO_FAILURE)?;
     expect(&rt, COST, &outcome, 0, "goals 1\ngoal 1 cost 1 (a)\n", "");
 
-    let goals = padded(rt.alloc(), "(at1)", (1 << 20) + 1)?;
+    let goals = padded(rt.alloc(), "(at1)", ' ', (1 << 20) + 1)?;
     let outcome = run_on(rt.alloc(), COST, fork(goals.as_str()), NO_FAILURE)?;
     let line = "grd: goals: longer than 1048576 bytes\n";
     expect(&rt, COST, &outcome, 1, "", line);
 
-    let domain = padded(rt.alloc(), FORK, (1 << 20) + 1)?;
+    let domain = padded(rt.alloc(), FORK, ' ', (1 << 20) + 1)?;
     let longer = Texts {
         domain: domain.as_str(),
         problem: FORK_START,
         goals: goals.as_str(),
     };
     let outcome = run_on(rt.alloc(), COST, longer, NO_FAILURE)?;
-    expect(&rt, COST, &outcome, 1, "", "grd: domain: not yet read\n");
+    let line = "grd: domain: longer than 1048576 bytes\n";
+    expect(&rt, COST, &outcome, 1, "", line);
     Ok(())
 }
 

@@ -1,9 +1,9 @@
 ghost use Rattle.std.specs.Prelude.{◌≡◌, ◌≢◌, ℕ, ◌^◌, ◌≤◌, ◌↔◌, List, [], ◌∷◌, length, map, AllPairs, IsTrue, IfOk, string_bytes};
 ghost use Rattle.std.specs.Str.{bytes_eq};
-ghost use Rattle.pddl_reader.specs.Spelling.{IsDeclared, IsFirstForm};
+ghost use Rattle.grd_program.specs.Forms.{IsFirstForm};
 ghost use Rattle.strips_model.specs.Worlds.{is_blocked, numbers_of, action_of, goal_of, has_atom};
 ghost use Rattle.grd_program.specs.Names.{HaveSame, texts_of, fluents_of, world_with};
-ghost use Rattle.grd_program.specs.Worlds.{predicate_of, positives, negatives, is_fluent, instance_of, spelled_task, FitsDomain};
+ghost use Rattle.grd_program.specs.Worlds.{predicate_of, positives, negatives, is_fluent, instance_of, spelled_task};
 
 use crate::names::Names;
 use goal_files::Goal;
@@ -11,20 +11,6 @@ use grd_base::{AtomId, OutOfMemory};
 use pddl_reader::{Domain, Literal, Problem, Schema};
 use std::alloc::Global;
 use strips_model::{Action, Condition, Task};
-
-/// Whether the problem is for the domain, and starts from atoms of its predicates.
-pub(crate) fn fits_domain(
-    alloc: Global,
-    domain: &Domain,
-    problem: &Problem,
-) -> Result<bool, OutOfMemory>
-    ensures { IfOk result (λ b. IsTrue b ↔ FitsDomain domain.now problem.now) }
-{
-    let predicates = predicate_names(alloc, domain)?;
-    let start = literal_names(alloc, &problem.init)?;
-    let fits = problem.domain.text == domain.name.text && predicates.contains_all(&start);
-    Ok(fits)
-}
 
 /// The task of the world with these goals.
 pub(crate) fn task_of(
@@ -170,19 +156,6 @@ fn effect_names(alloc: Global, domain: &Domain) -> Result<Names, OutOfMemory>
     for action in &domain.actions {
         names.insert_all(&literal_names(alloc, &action.effect)?)?;
     }
-    Ok(names)
-}
-
-fn predicate_names(alloc: Global, domain: &Domain) -> Result<Names, OutOfMemory>
-    ensures { IfOk result (λ names. HaveSame names (map (λ q. q.name.text) domain.now.predicates)) }
-{
-    let predicates: Vec<&str> = domain
-        .predicates
-        .iter()
-        .map(|predicate| predicate.name.text.as_str())
-        .collect(alloc)?;
-    let mut names = Names::new(alloc);
-    names.insert_all(&predicates)?;
     Ok(names)
 }
 

@@ -1,13 +1,29 @@
-use Rattle.std.proofs.Common.{refl, ap, Err, ◌∙◌, sym, subst}
+use Rattle.std.proofs.Common.{sym, subst}
+use Rattle.grd_base.specs.declared.roles.FileRole.TheVariants.{Domain}
 use Rattle.pddl_reader.specs.Spelling.{IsDomainText}
-use Rattle.grd_program.proofs.FileLemmas.{lacks, has}
+use Rattle.pddl_reader.specs.Faults.{IsDomainFault}
+use Rattle.grd_program.specs.Causes.{HasDomainCause, FailsDomain}
 use Rattle.grd_program.specs.Runs.{SpellsOnly}
+use Rattle.grd_program.proofs.FileLemmas.{has, only_value, no_value, plain_fault, pddl_cause}
 use Rattle.grd_program.proofs.files.domain_of.Goals as goal
 
-pub returns-in-Err-NotYet-clause-cause : goal.returns-in-Err-NotYet-clause-cause
-returns-in-Err-NotYet-clause-cause g c =
-    (refl, c.in_ok-text.ensures.quiet, lacks _ c.in_ok-text.text.items _ c.in_ok-text.ensures.whole (λ spelled. c.read_domain.ensures.not_yet (c.in-Err-NotYet.is ∙ ap Err c.in-Err-NotYet.field-0-is) spelled.0 (subst (λ t. IsDomainText t spelled.0) (sym c.deref.ensures.value) spelled.1)))
-
 pub returns-in-Ok-clause-spelled : goal.returns-in-Ok-clause-spelled
-returns-in-Ok-clause-spelled g c = has _ c.in_ok-text.text.items (SpellsOnly IsDomainText c.in-Ok.domain) c.in_ok-text.ensures.whole c.in_ok-text.ensures.short
-    (subst (SpellsOnly IsDomainText c.in-Ok.domain) c.deref.ensures.value (c.in-Ok.ensures.spelled, c.in-Ok.ensures.only))
+returns-in-Ok-clause-spelled g c =
+    has _ c.in_ok-text.text.items (SpellsOnly IsDomainText c.in-Ok.domain) c.in_ok-text.ensures.whole c.in_ok-text.ensures.short
+    (subst (SpellsOnly IsDomainText c.in-Ok.domain) c.deref.ensures.value
+    (c.in-Ok.ensures.spelled, only_value (IsDomainText c.deref.result.now) c.read_domain.result c.read_domain.ensures.exactly c.in-Ok.domain c.in-Ok.is))
+
+pub returns-clause-cause : goal.returns-clause-cause
+returns-clause-cause g c =
+    let fault = c.in-Err.fault in
+    pddl_cause (HasDomainCause (g.F.Shelf.told c.args.shelf.now c.args.name.now) (g.F.Shelf.faults c.args.shelf.now) (g.F.Shelf.faults c.text_of.new.shelf) c.args.name.now)
+    Domain fault c.pddl_status.result c.pddl_status.ensures.memory c.pddl_status.ensures.refused tt
+    (λ plain. (
+      plain,
+      c.in_ok-text.ensures.quiet,
+      has _ c.in_ok-text.text.items (FailsDomain fault) c.in_ok-text.ensures.whole c.in_ok-text.ensures.short
+          (subst (FailsDomain fault) c.deref.ensures.value (
+            plain_fault (IsDomainFault c.deref.result.now) fault (c.read_domain.ensures.fault fault c.in-Err.is) plain,
+            no_value (IsDomainText c.deref.result.now) c.read_domain.result c.read_domain.ensures.exactly fault c.in-Err.is plain,
+          )),
+    ))

@@ -1,0 +1,1 @@
+(define (problem p) (:init) (:requirements :strips) (:domain loose))

@@ -1,0 +1,1 @@
+(define (domain d) (:action a :effect (increase (total-cost) 1)))
