@@ -1,0 +1,9 @@
+// Numbered states: each state once, in the order of insertion.
+#![tactic(auto)]
+
+mod store;
+
+pub use store::StateStore;
+
+#[cfg(test)]
+mod tests;
