@@ -7,6 +7,7 @@ pub mod Typed
 pub mod Conditions
 pub mod Sections
 pub mod Spelling
+pub mod Places
 pub mod Faults
 pub mod Reading
 pub mod Lists
@@ -14,3 +15,4 @@ pub mod Kept
 pub mod Steps
 pub mod PlainSections
 pub mod TypedSteps
+pub mod Kinds

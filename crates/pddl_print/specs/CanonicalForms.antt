@@ -1,0 +1,97 @@
+-- The canonical text of a value as a tree of words, with the place 0 everywhere.
+use Rattle.std.specs.Prelude.{ℕ, List, [], ◌∷◌, ◌++◌, map, codes, All, if◌then◌else◌}
+use Rattle.std.specs.List.{flat_map}
+use Rattle.pddl_reader.specs.Forms.{Word, Form, Leaf, group}
+use Rattle.pddl_reader.specs.Values.{PlainTypedName, PlainTerm, PlainLiteral, PlainSchema, PlainPredicate, PlainDomain, PlainProblem}
+use Rattle.pddl_reader.specs.Values.PlainTerm.{Variable, Constant}
+
+abbrev pub word : List ℕ → Form
+word text = Leaf (record { text = text; at = 0 })
+
+abbrev pub name_form : Word → Form
+name_form w = word w.text
+
+abbrev pub type_form : List Word → Form
+type_form (t ∷ []) = name_form t
+type_form types = group 0 (word (codes "either") ∷ map name_form types)
+
+abbrev pub typed_forms : PlainTypedName → List Form
+typed_forms n = name_form n.name ∷ word (codes "-") ∷ type_form n.types ∷ []
+
+abbrev pub term_form : PlainTerm → Form
+term_form (Variable w) = name_form w
+term_form (Constant w) = name_form w
+
+abbrev pub atom_form : PlainLiteral → Form
+atom_form l = group 0 (name_form l.predicate ∷ map term_form l.terms)
+
+abbrev pub literal_form : PlainLiteral → Form
+literal_form l = if l.positive then atom_form l else group 0 (word (codes "not") ∷ atom_form l ∷ [])
+
+abbrev pub condition_form : List PlainLiteral → Form
+condition_form ls = group 0 (word (codes "and") ∷ map literal_form ls)
+
+abbrev pub predicate_form : PlainPredicate → Form
+predicate_form p = group 0 (name_form p.name ∷ flat_map typed_forms p.parameters)
+
+abbrev pub action_form : PlainSchema → Form
+action_form a = group 0 (word (codes ":action") ∷ name_form a.name
+    ∷ word (codes ":parameters") ∷ group 0 (flat_map typed_forms a.parameters)
+    ∷ word (codes ":precondition") ∷ condition_form a.pre
+    ∷ word (codes ":effect") ∷ condition_form a.effect ∷ [])
+
+-- a section with these forms; none where there are none
+abbrev pub section_forms : List ℕ → List Form → List Form
+section_forms keyword [] = []
+section_forms keyword (f ∷ forms) = group 0 (word keyword ∷ f ∷ forms) ∷ []
+
+abbrev pub domain_form : PlainDomain → Form
+domain_form d = group 0 (word (codes "define") ∷ group 0 (word (codes "domain") ∷ name_form d.name ∷ [])
+    ∷ group 0 (word (codes ":requirements") ∷ word (codes ":strips") ∷ word (codes ":typing") ∷ [])
+    ∷ (section_forms (codes ":types") (flat_map typed_forms d.types)
+    ++ section_forms (codes ":constants") (flat_map typed_forms d.constants)
+    ++ section_forms (codes ":predicates") (map predicate_form d.predicates)
+    ++ map action_form d.actions))
+
+abbrev pub problem_form : PlainProblem → Form
+problem_form p = group 0 (word (codes "define") ∷ group 0 (word (codes "problem") ∷ name_form p.name ∷ [])
+    ∷ group 0 (word (codes ":domain") ∷ name_form p.domain ∷ [])
+    ∷ (section_forms (codes ":objects") (flat_map typed_forms p.objects)
+    ++ group 0 (word (codes ":init") ∷ map literal_form p.init)
+    ∷ group 0 (word (codes ":goal") ∷ condition_form [] ∷ []) ∷ []))
+
+-- every name of the value has the property
+pub record AllTyped (P : List ℕ → Type 0) (n : PlainTypedName) : Type 0 where
+  pub name : P n.name.text
+  pub types : All (λ t. P t.text) n.types
+
+abbrev pub AllTerm : (List ℕ → Type 0) → PlainTerm → Type 0
+AllTerm P (Variable w) = P w.text
+AllTerm P (Constant w) = P w.text
+
+pub record AllLiteral (P : List ℕ → Type 0) (l : PlainLiteral) : Type 0 where
+  pub predicate : P l.predicate.text
+  pub terms : All (AllTerm P) l.terms
+
+pub record AllSchema (P : List ℕ → Type 0) (a : PlainSchema) : Type 0 where
+  pub name : P a.name.text
+  pub parameters : All (AllTyped P) a.parameters
+  pub pre : All (AllLiteral P) a.pre
+  pub effect : All (AllLiteral P) a.effect
+
+pub record AllPredicate (P : List ℕ → Type 0) (p : PlainPredicate) : Type 0 where
+  pub name : P p.name.text
+  pub parameters : All (AllTyped P) p.parameters
+
+pub record AllDomain (P : List ℕ → Type 0) (d : PlainDomain) : Type 0 where
+  pub name : P d.name.text
+  pub types : All (AllTyped P) d.types
+  pub constants : All (AllTyped P) d.constants
+  pub predicates : All (AllPredicate P) d.predicates
+  pub actions : All (AllSchema P) d.actions
+
+pub record AllProblem (P : List ℕ → Type 0) (p : PlainProblem) : Type 0 where
+  pub name : P p.name.text
+  pub domain : P p.domain.text
+  pub objects : All (AllTyped P) p.objects
+  pub init : All (AllLiteral P) p.init

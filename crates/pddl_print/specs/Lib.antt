@@ -1,0 +1,5 @@
+pub mod Canonical
+pub mod Spells
+pub mod Layouts
+pub mod CanonicalForms
+pub mod CanonicalParts

@@ -1,0 +1,113 @@
+ghost use Rattle.std.specs.Prelude.{◌≡◌, ◌++◌, codes, map, OnOk};
+ghost use Rattle.std.specs.List.{flat_map};
+ghost use Rattle.pddl_print.specs.Canonical.{action_text, domain_text, predicate_text, problem_text, section_text, spaced, typed_text};
+
+use crate::literals::{put_condition, put_spaced_literals};
+use crate::typed::{put_name, put_separated_typed, put_spaced_typed};
+use pddl_reader::{Domain, Predicate, Problem, Schema, TypedName};
+use std::alloc::AllocError;
+
+/// Writes the line of a section of names with their types, where there is one.
+fn put_typed_section(
+    out: &mut Vec<u8>,
+    keyword: &str,
+    names: &[TypedName],
+) -> Result<(), AllocError>
+    ensures { OnOk result (out.new.items
+        ≡ out.old.items ++ section_text keyword.now (map typed_text names.now)) }
+{
+    if names.is_empty() {
+        return Ok(());
+    }
+    out.extend_from_slice(b"(")?;
+    out.extend_from_slice(keyword.as_bytes())?;
+    put_spaced_typed(out, names)?;
+    out.extend_from_slice(b")\n")
+}
+
+fn put_predicate(out: &mut Vec<u8>, predicate: &Predicate) -> Result<(), AllocError>
+    ensures { OnOk result (out.new.items ≡ out.old.items ++ predicate_text predicate.now) }
+{
+    out.extend_from_slice(b"(")?;
+    put_name(out, &predicate.name)?;
+    put_spaced_typed(out, &predicate.parameters)?;
+    out.extend_from_slice(b")")
+}
+
+/// Writes predicates, each behind a space.
+fn put_spaced_predicates(out: &mut Vec<u8>, predicates: &[Predicate]) -> Result<(), AllocError>
+    ensures { OnOk result (out.new.items
+        ≡ out.old.items ++ spaced (map predicate_text predicates.now)) }
+{
+    for predicate in predicates {
+        out.extend_from_slice(b" ")?;
+        put_predicate(out, predicate)?;
+    }
+    Ok(())
+}
+
+/// Writes the line of the predicates, where there is one.
+fn put_predicates(out: &mut Vec<u8>, predicates: &[Predicate]) -> Result<(), AllocError>
+    ensures { OnOk result (out.new.items
+        ≡ out.old.items ++ section_text (codes ":predicates") (map predicate_text predicates.now)) }
+{
+    if predicates.is_empty() {
+        return Ok(());
+    }
+    out.extend_from_slice(b"(:predicates")?;
+    put_spaced_predicates(out, predicates)?;
+    out.extend_from_slice(b")\n")
+}
+
+/// Writes the lines of an action.
+fn put_action(out: &mut Vec<u8>, action: &Schema) -> Result<(), AllocError>
+    ensures { OnOk result (out.new.items ≡ out.old.items ++ action_text action.now) }
+{
+    out.extend_from_slice(b"(:action ")?;
+    put_name(out, &action.name)?;
+    out.extend_from_slice(b"\n:parameters (")?;
+    put_separated_typed(out, &action.parameters)?;
+    out.extend_from_slice(b")\n:precondition ")?;
+    put_condition(out, &action.pre)?;
+    out.extend_from_slice(b"\n:effect ")?;
+    put_condition(out, &action.effect)?;
+    out.extend_from_slice(b")\n")
+}
+
+fn put_actions(out: &mut Vec<u8>, actions: &[Schema]) -> Result<(), AllocError>
+    ensures { OnOk result (out.new.items ≡ out.old.items ++ flat_map action_text actions.now) }
+{
+    for action in actions {
+        put_action(out, action)?;
+    }
+    Ok(())
+}
+
+/// Writes a domain.
+pub(crate) fn put_domain(out: &mut Vec<u8>, domain: &Domain) -> Result<(), AllocError>
+    ensures { OnOk result (out.new.items ≡ out.old.items ++ domain_text domain.now) }
+{
+    out.extend_from_slice(b"(define (domain ")?;
+    put_name(out, &domain.name)?;
+    out.extend_from_slice(b")\n(:requirements :strips :typing)\n")?;
+    put_typed_section(out, ":types", &domain.types)?;
+    put_typed_section(out, ":constants", &domain.constants)?;
+    put_predicates(out, &domain.predicates)?;
+    put_actions(out, &domain.actions)?;
+    out.extend_from_slice(b")\n")
+}
+
+/// Writes a problem.
+pub(crate) fn put_problem(out: &mut Vec<u8>, problem: &Problem) -> Result<(), AllocError>
+    ensures { OnOk result (out.new.items ≡ out.old.items ++ problem_text problem.now) }
+{
+    out.extend_from_slice(b"(define (problem ")?;
+    put_name(out, &problem.name)?;
+    out.extend_from_slice(b")\n(:domain ")?;
+    put_name(out, &problem.domain)?;
+    out.extend_from_slice(b")\n")?;
+    put_typed_section(out, ":objects", &problem.objects)?;
+    out.extend_from_slice(b"(:init")?;
+    put_spaced_literals(out, &problem.init)?;
+    out.extend_from_slice(b")\n(:goal (and)))\n")
+}
