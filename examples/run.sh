@@ -33,6 +33,7 @@ check_files() {
 fork=../../examples/fork
 keep=../../examples/keep
 loose=../../examples/loose
+rooms=../../examples/rooms
 refused=../../examples/refused
 for files in "$fork" "$keep" "$loose"; do
     check 0 "$files/expected.txt" "" cost --domain "$files/domain.pddl" --problem "$files/problem.pddl" --goals "$files/goals.txt"
@@ -40,6 +41,9 @@ done
 on_fork=(--domain "$fork/domain.pddl" --problem "$fork/problem.pddl")
 check 0 "$fork/expected_wcd.txt" "" wcd "${on_fork[@]}" --goals "$fork/two_goals.txt"
 check 0 "$fork/expected_wcd.txt" "" wcd --max-states=5 "${on_fork[@]}" "--goals=$fork/two_goals.txt"
+for files in "$keep" "$rooms"; do
+    check 0 "$files/expected_show.txt" "" show --domain "$files/domain.pddl" --problem "$files/problem.pddl"
+done
 
 check_files "grd: domain: empty" /dev/null "$fork/problem.pddl"
 check_files "grd: domain: byte 0: unclosed" "$refused/unclosed.pddl" "$fork/problem.pddl"
@@ -48,8 +52,10 @@ check_files "grd: problem: byte 0: unclosed" "$refused/typed.pddl" "$refused/unc
 check_files "grd: domain: not yet read" "$refused/typed.pddl" "$keep/problem.pddl"
 check_files "grd: problem: not yet read" "$fork/domain.pddl" "$keep/problem.pddl"
 check 1 /dev/null "grd: goals: line 3: unknown atom" wcd "${on_fork[@]}" --goals "$fork/unknown_atom.txt"
+check 1 /dev/null "grd: problem: byte 0: unclosed" show --domain "$rooms/domain.pddl" --problem "$refused/unclosed.pddl"
 check 2 /dev/null "grd: usage: no command"
 check 2 /dev/null "grd: usage: missing --problem" cost --domain "$fork/domain.pddl"
+check 2 /dev/null "grd: usage: missing --problem" show --domain "$rooms/domain.pddl"
 check 2 /dev/null "grd: usage: word 2" wcd --help
 check 2 /dev/null "grd: usage: number --max-states" cost "${on_fork[@]}" --goals "$fork/goals.txt" --max-states 0
 check 4 /dev/null "grd: limit: more than 1 states near goal 1" cost "${on_fork[@]}" --goals "$fork/goals.txt" --max-states 1

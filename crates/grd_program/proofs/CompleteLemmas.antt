@@ -1,10 +1,10 @@
 -- An answer comes where its causes are excluded.
-use Rattle.std.proofs.Common.{◌≡◌, ℕ, ◌^◌, ◌<◌, ◌≤◌, ◌⊎◌, List, length, Bool, Some, refl, sym, subst, inl, inr, arith}
+use Rattle.std.proofs.Common.{◌≡◌, ℕ, ◌^◌, ◌<◌, ◌≤◌, List, length, Bool, Some, refl, sym, subst, inl, inr, arith}
 use Rattle.std.proofs.lemmas.List.{length-map}
 use Rattle.std.specs.Str.{bytes_eq}
 use Rattle.grd_base.specs.declared.roles.FileRole.TheVariants.{Domain, Problem, Goals, Observations, Certificate}
-use Rattle.grd_base.specs.declared.ids.GoalId.{GoalId}
 use Rattle.grd_io.specs.Bytes.{Told, IsLongerFile}
+use Rattle.grd_io.specs.Causes.{Rose}
 use Rattle.strips_model.specs.Reached.{MoreThan, IsReachedFor}
 use Rattle.strips_model.specs.Worlds.{goal_of}
 use Rattle.pddl_reader.specs.Values.{PlainDomain, PlainProblem}
@@ -14,11 +14,13 @@ use Rattle.grd_program.specs.declared.status.Status.{Status}
 use Rattle.grd_program.specs.declared.status.Status.TheVariants.{Done, Refused, Usage, Limit, ReadFailed, WriteFailed, OutOfMemory}
 use Rattle.grd_program.specs.declared.status.Refusal.TheVariants.{NotYet, TooLong, Pddl, Goals as OfGoals}
 use Rattle.grd_program.specs.declared.status.LimitFault.TheVariants.{States}
-use Rattle.grd_program.specs.Commands.{PlainJob}
+use Rattle.grd_program.specs.declared.command.Command.{Command}
+use Rattle.grd_program.specs.declared.command.Command.TheVariants.{Cost, Wcd, Show}
+use Rattle.grd_program.specs.Commands.{PlainJob, Reads}
 use Rattle.grd_program.specs.Forms.{IsFirstForm, FitsDomain}
 use Rattle.grd_program.specs.Worlds.{world_of, spelled_task}
 use Rattle.grd_program.specs.Causes.{HasText, FailsDomain, FailsProblem, SpellsOnlyGoals, HasOnlyFault}
-use Rattle.grd_program.specs.Runs.{SpellsOnly, HasWorld, HasNoFault, HasFilesCause, HasCause, MayBecome, MeetsLimit, IsComplete}
+use Rattle.grd_program.specs.Runs.{SpellsOnly, TakesTexts, ReadsOnly, HasTexts, HasNoFault, CanReport, CanAnswer, HasTextsCause, HasFilesCause, HasCommandCause, HasCause, MayBecome, MeetsLimit, IsComplete}
 
 -- the value that a file spells is the one that was taken
 taken : {V : Type 0} (Spells : List ℕ → V → Type 0) (told : Told) (text : List ℕ) (x y : V)
@@ -36,77 +38,122 @@ short_file told text limit there short is longer =
 goals_many : (d : PlainDomain) (p : PlainProblem) (goals : List (List (List ℕ))) → length (spelled_task d p goals).goals ≡ length goals
 goals_many d p goals = length-map goals (goal_of bytes_eq (world_of d p goals))
 
-pub files_complete : (told : List ℕ → Told) (before now : List ℕ → Bool → ℕ) (job : PlainJob) (out_before out_now : ℕ)
-    (d : PlainDomain) (p : PlainProblem) (goals : List (List (List ℕ)))
-    → HasWorld told job d p goals
-    → HasNoFault before now job out_before out_now
-    → ((g : GoalId) → g.0 < length goals → MoreThan job.limits.states (IsReachedFor (spelled_task d p goals) g) → ⊥)
-    → (s : Status) → HasFilesCause told before now job s
-    → (s ≡ Done) ⊎ (s ≡ OutOfMemory)
-files_complete told before now job ob on d p goals w f few Done h = inl refl
-files_complete told before now job ob on d p goals w f few (Usage fault) h = absurd h
-files_complete told before now job ob on d p goals w f few (Refused (NotYet Domain)) h =
-    let same : d ≡ h.1 = taken IsDomainText (told job.domain) w.domain_text d h.1 w.domain_there w.spelled.domain h.3 in
-    absurd (h.5 (subst IsFirstForm same w.spelled.form))
-files_complete told before now job ob on d p goals w f few (Refused (NotYet Problem)) h =
-    let same : d ≡ h.1 = taken IsDomainText (told job.domain) w.domain_text d h.1 w.domain_there w.spelled.domain h.3 in
-    let also : p ≡ h.2 = taken IsProblemText (told job.problem) w.problem_text p h.2 w.problem_there w.spelled.problem h.4 in
-    absurd (h.6 (subst (λ e. FitsDomain e h.2) same (subst (FitsDomain d) also w.spelled.fits)))
-files_complete told before now job ob on d p goals w f few (Refused (NotYet Goals)) h = absurd h
-files_complete told before now job ob on d p goals w f few (Refused (NotYet Observations)) h = absurd h
-files_complete told before now job ob on d p goals w f few (Refused (NotYet Certificate)) h = absurd h
-files_complete told before now job ob on d p goals w f few (Refused (TooLong Domain limit)) h =
-    absurd (short_file (told job.domain) w.domain_text limit w.domain_there w.domain_short h.0 h.2)
-files_complete told before now job ob on d p goals w f few (Refused (TooLong Problem limit)) h =
-    absurd (short_file (told job.problem) w.problem_text limit w.problem_there w.problem_short h.0 h.4)
-files_complete told before now job ob on d p goals w f few (Refused (TooLong Goals limit)) h =
-    absurd (short_file (told job.goals) w.goals_text limit w.goals_there w.goals_short h.0 h.5)
-files_complete told before now job ob on d p goals w f few (Refused (TooLong Observations limit)) h = absurd h
-files_complete told before now job ob on d p goals w f few (Refused (TooLong Certificate limit)) h = absurd h
-files_complete told before now job ob on d p goals w f few (Refused (Pddl Domain fault)) h =
-    absurd ((subst (λ t. HasText t (FailsDomain fault)) w.domain_there h.2).1.1 d w.spelled.domain)
-files_complete told before now job ob on d p goals w f few (Refused (Pddl Problem fault)) h =
-    absurd ((subst (λ t. HasText t (FailsProblem fault)) w.problem_there h.4).1.1 p w.spelled.problem)
-files_complete told before now job ob on d p goals w f few (Refused (Pddl Goals fault)) h = absurd h
-files_complete told before now job ob on d p goals w f few (Refused (Pddl Observations fault)) h = absurd h
-files_complete told before now job ob on d p goals w f few (Refused (Pddl Certificate fault)) h = absurd h
-files_complete told before now job ob on d p goals w f few (Refused (OfGoals fault)) h =
-    let same : d ≡ h.2 = taken IsDomainText (told job.domain) w.domain_text d h.2 w.domain_there w.spelled.domain h.4.takes_domain in
-    let only : HasOnlyFault h.2 w.goals_text fault = (subst (λ t. HasText t (λ text. HasOnlyFault h.2 text fault)) w.goals_there h.5).1 in
-    absurd (only.no_goals goals (subst (λ e. SpellsGoals e w.goals_text goals) same w.spelled.gives))
-files_complete told before now job ob on d p goals w f few (Limit (States g limit)) h =
-    let same : d ≡ h.1 = taken IsDomainText (told job.domain) w.domain_text d h.1 w.domain_there w.spelled.domain h.4.world.takes_domain in
-    let also : p ≡ h.2 = taken IsProblemText (told job.problem) w.problem_text p h.2 w.problem_there w.spelled.problem h.4.world.takes_problem in
-    let only : SpellsOnlyGoals h.1 w.goals_text h.3 = (subst (λ t. HasText t (λ text. SpellsOnlyGoals h.1 text h.3)) w.goals_there h.4.takes_goals).1 in
-    let all : goals ≡ h.3 = only.only goals (subst (λ e. SpellsGoals e w.goals_text goals) same w.spelled.gives) in
-    let meets : MeetsLimit job.limits.states (spelled_task d p goals) g limit =
-    subst (λ e. MeetsLimit job.limits.states (spelled_task e p goals) g limit) (sym same)
-    (subst (λ q. MeetsLimit job.limits.states (spelled_task h.1 q goals) g limit) (sym also)
-    (subst (λ gs. MeetsLimit job.limits.states (spelled_task h.1 h.2 gs) g limit) (sym all) h.5)) in
-    absurd (few g (omega (arith, meets.0, goals_many d p goals)) (subst (λ n. MoreThan n (IsReachedFor (spelled_task d p goals) g)) meets.1 meets.2))
-files_complete told before now job ob on d p goals w f few (ReadFailed Domain) h = absurd (f.reads_domain h.rose)
-files_complete told before now job ob on d p goals w f few (ReadFailed Problem) h = absurd (f.reads_problem h.1.rose)
-files_complete told before now job ob on d p goals w f few (ReadFailed Goals) h = absurd (f.reads_goals h.1.rose)
-files_complete told before now job ob on d p goals w f few (ReadFailed Observations) h = absurd h
-files_complete told before now job ob on d p goals w f few (ReadFailed Certificate) h = absurd h
-files_complete told before now job ob on d p goals w f few (WriteFailed target) h = absurd h
-files_complete told before now job ob on d p goals w f few OutOfMemory h = inr refl
+module _ (told : List ℕ → Told) (before now : List ℕ → Bool → ℕ) (job : PlainJob) (ob on : ℕ) where
+  -- the domain and the problem that the files spell are those that were taken
+  same_domain : (d e : PlainDomain) (p q : PlainProblem) → HasTexts told job d p → TakesTexts told job e q → d ≡ e
+  same_domain d e p q w takes = taken IsDomainText (told job.domain) w.domain_bytes d e w.domain_there w.is_domain takes.takes_domain
+
+  same_problem : (d e : PlainDomain) (p q : PlainProblem) → HasTexts told job d p → TakesTexts told job e q → p ≡ q
+  same_problem d e p q w takes = taken IsProblemText (told job.problem) w.problem_bytes p q w.problem_there w.is_problem takes.takes_problem
+
+  -- where the domain and the problem are spelled, neither is the cause
+  texts_complete : (d : PlainDomain) (p : PlainProblem) → HasTexts told job d p → HasNoFault before now job ob on
+      → (s : Status) → HasTextsCause told before now job s → s ≡ OutOfMemory
+  texts_complete d p w f Done h = absurd h
+  texts_complete d p w f (Usage fault) h = absurd h
+  texts_complete d p w f (Refused (NotYet role)) h = absurd h
+  texts_complete d p w f (Refused (TooLong Domain limit)) h =
+      absurd (short_file (told job.domain) w.domain_bytes limit w.domain_there w.domain_short h.0 h.2)
+  texts_complete d p w f (Refused (TooLong Problem limit)) h =
+      absurd (short_file (told job.problem) w.problem_bytes limit w.problem_there w.problem_short h.0 h.4)
+  texts_complete d p w f (Refused (TooLong Goals limit)) h = absurd h
+  texts_complete d p w f (Refused (TooLong Observations limit)) h = absurd h
+  texts_complete d p w f (Refused (TooLong Certificate limit)) h = absurd h
+  texts_complete d p w f (Refused (Pddl Domain fault)) h =
+      absurd ((subst (λ t. HasText t (FailsDomain fault)) w.domain_there h.2).1.no_domain d w.is_domain)
+  texts_complete d p w f (Refused (Pddl Problem fault)) h =
+      absurd ((subst (λ t. HasText t (FailsProblem fault)) w.problem_there h.4).1.no_problem p w.is_problem)
+  texts_complete d p w f (Refused (Pddl Goals fault)) h = absurd h
+  texts_complete d p w f (Refused (Pddl Observations fault)) h = absurd h
+  texts_complete d p w f (Refused (Pddl Certificate fault)) h = absurd h
+  texts_complete d p w f (Refused (OfGoals fault)) h = absurd h
+  texts_complete d p w f (Limit fault) h = absurd h
+  texts_complete d p w f (ReadFailed Domain) h = absurd (f.reads_domain h.rose)
+  texts_complete d p w f (ReadFailed Problem) h = absurd (f.reads_problem h.1.rose)
+  texts_complete d p w f (ReadFailed Goals) h = absurd h
+  texts_complete d p w f (ReadFailed Observations) h = absurd h
+  texts_complete d p w f (ReadFailed Certificate) h = absurd h
+  texts_complete d p w f (WriteFailed target) h = absurd h
+  texts_complete d p w f OutOfMemory h = refl
+
+  as_texts : (can : CanReport told before now job ob on) (s : Status) → HasTextsCause told before now job s → s ≡ OutOfMemory
+  as_texts can = texts_complete can.domain can.problem can.world.texts can.no_fault
+
+  -- nor is one of the three files, where a report can be made
+  files_complete : CanReport told before now job ob on → (s : Status) → HasFilesCause told before now job s → s ≡ OutOfMemory
+  files_complete can Done h = as_texts can Done h
+  files_complete can (Usage fault) h = as_texts can (Usage fault) h
+  files_complete can (Refused (NotYet Domain)) h =
+      absurd (h.4 (subst IsFirstForm (same_domain can.domain h.1 can.problem h.2 can.world.texts h.3) can.world.form))
+  files_complete can (Refused (NotYet Problem)) h =
+      let same : can.domain ≡ h.1 = same_domain can.domain h.1 can.problem h.2 can.world.texts h.3 in
+      let also : can.problem ≡ h.2 = same_problem can.domain h.1 can.problem h.2 can.world.texts h.3 in
+      absurd (h.5 (subst (λ e. FitsDomain e h.2) same (subst (FitsDomain can.domain) also can.world.fits)))
+  files_complete can (Refused (NotYet Goals)) h = as_texts can (Refused (NotYet Goals)) h
+  files_complete can (Refused (NotYet Observations)) h = as_texts can (Refused (NotYet Observations)) h
+  files_complete can (Refused (NotYet Certificate)) h = as_texts can (Refused (NotYet Certificate)) h
+  files_complete can (Refused (TooLong Domain limit)) h = as_texts can (Refused (TooLong Domain limit)) h
+  files_complete can (Refused (TooLong Problem limit)) h = as_texts can (Refused (TooLong Problem limit)) h
+  files_complete can (Refused (TooLong Goals limit)) h =
+      absurd (short_file (told job.goals) can.world.goals_bytes limit can.world.goals_there can.world.goals_short h.0 h.5)
+  files_complete can (Refused (TooLong Observations limit)) h = as_texts can (Refused (TooLong Observations limit)) h
+  files_complete can (Refused (TooLong Certificate limit)) h = as_texts can (Refused (TooLong Certificate limit)) h
+  files_complete can (Refused (Pddl Domain fault)) h = as_texts can (Refused (Pddl Domain fault)) h
+  files_complete can (Refused (Pddl Problem fault)) h = as_texts can (Refused (Pddl Problem fault)) h
+  files_complete can (Refused (Pddl Goals fault)) h = as_texts can (Refused (Pddl Goals fault)) h
+  files_complete can (Refused (Pddl Observations fault)) h = as_texts can (Refused (Pddl Observations fault)) h
+  files_complete can (Refused (Pddl Certificate fault)) h = as_texts can (Refused (Pddl Certificate fault)) h
+  files_complete can (Refused (OfGoals fault)) h =
+      let same : can.domain ≡ h.2 = same_domain can.domain h.2 can.problem h.3 can.world.texts h.4.texts in
+      let only : HasOnlyFault h.2 can.world.goals_bytes fault = (subst (λ t. HasText t (λ text. HasOnlyFault h.2 text fault)) can.world.goals_there h.5).1 in
+      absurd (only.no_goals can.goals (subst (λ e. SpellsGoals e can.world.goals_bytes can.goals) same can.world.gives))
+  files_complete can (Limit (States g limit)) h =
+      let same : can.domain ≡ h.1 = same_domain can.domain h.1 can.problem h.2 can.world.texts h.4.world.texts in
+      let also : can.problem ≡ h.2 = same_problem can.domain h.1 can.problem h.2 can.world.texts h.4.world.texts in
+      let only : SpellsOnlyGoals h.1 can.world.goals_bytes h.3 = (subst (λ t. HasText t (λ text. SpellsOnlyGoals h.1 text h.3)) can.world.goals_there h.4.takes_goals).1 in
+      let all : can.goals ≡ h.3 = only.only can.goals (subst (λ e. SpellsGoals e can.world.goals_bytes can.goals) same can.world.gives) in
+      let meets : MeetsLimit job.limits.states (spelled_task can.domain can.problem can.goals) g limit =
+      subst (λ e. MeetsLimit job.limits.states (spelled_task e can.problem can.goals) g limit) (sym same)
+      (subst (λ q. MeetsLimit job.limits.states (spelled_task h.1 q can.goals) g limit) (sym also)
+      (subst (λ gs. MeetsLimit job.limits.states (spelled_task h.1 h.2 gs) g limit) (sym all) h.5)) in
+      absurd (can.few g (omega (arith, meets.0, goals_many can.domain can.problem can.goals))
+      (subst (λ n. MoreThan n (IsReachedFor (spelled_task can.domain can.problem can.goals) g)) meets.1 meets.2))
+  files_complete can (ReadFailed Domain) h = as_texts can (ReadFailed Domain) h
+  files_complete can (ReadFailed Problem) h = as_texts can (ReadFailed Problem) h
+  files_complete can (ReadFailed Goals) h = absurd (can.reads_goals h.1.rose)
+  files_complete can (ReadFailed Observations) h = as_texts can (ReadFailed Observations) h
+  files_complete can (ReadFailed Certificate) h = as_texts can (ReadFailed Certificate) h
+  files_complete can (WriteFailed target) h = as_texts can (WriteFailed target) h
+  files_complete can OutOfMemory h = as_texts can OutOfMemory h
+
+  -- nor is any of its command's, where a command has all that it needs
+  command_complete : (command : Command) → CanAnswer command told before now job ob on → (s : Status) → HasCommandCause command told before now job s → s ≡ OutOfMemory
+  command_complete Cost can s h = files_complete can s h
+  command_complete Wcd can s h = files_complete can s h
+  command_complete Show can s h = texts_complete can.domain can.problem can.texts can.no_fault s h
+
+-- the job of the cause is the one for which the words ask
+asked_complete : (told : List ℕ → Told) (before now : List ℕ → Bool → ℕ) (words : List (List ℕ)) (ob on : ℕ) (s : Status) (job found : PlainJob) → Reads words job
+    → CanAnswer job.command told before now job ob on → ReadsOnly words found → HasCommandCause found.command told before now found s → s ≡ OutOfMemory
+asked_complete told before now words ob on s job found reads can only h =
+    command_complete told before now job ob on job.command can s
+    (subst (λ j. HasCommandCause j.command told before now j s) (sym (only.only job reads)) h)
+
+-- no count of a job rose where its command can answer
+no_write : (told : List ℕ → Told) (before now : List ℕ → Bool → ℕ) (job : PlainJob) (ob on : ℕ) (command : Command) → CanAnswer command told before now job ob on → Rose ob on → ⊥
+no_write told before now job ob on Cost can rose = can.no_fault.writes rose
+no_write told before now job ob on Wcd can rose = can.no_fault.writes rose
+no_write told before now job ob on Show can rose = can.no_fault.writes rose
 
 pub complete : (told : List ℕ → Told) (before now : List ℕ → Bool → ℕ) (words : List (List ℕ)) (ob on : ℕ) (s : Status)
     → HasCause told before now words ob on s → IsComplete told before now words ob on s
-complete told before now words ob on Done h job d p goals reads w f few = inl refl
-complete told before now words ob on (Usage fault) h job d p goals reads w f few = absurd (h.1.no_job job reads)
-complete told before now words ob on (WriteFailed target) h job d p goals reads w f few = absurd (f.writes h.1)
-complete told before now words ob on OutOfMemory h job d p goals reads w f few = inr refl
-complete told before now words ob on (Refused refusal) h job d p goals reads w f few =
-    files_complete told before now job ob on d p goals w f few (Refused refusal)
-    (subst (λ j. HasFilesCause told before now j (Refused refusal)) (sym (h.1.only job reads)) h.2)
-complete told before now words ob on (Limit fault) h job d p goals reads w f few =
-    files_complete told before now job ob on d p goals w f few (Limit fault)
-    (subst (λ j. HasFilesCause told before now j (Limit fault)) (sym (h.1.only job reads)) h.2)
-complete told before now words ob on (ReadFailed role) h job d p goals reads w f few =
-    files_complete told before now job ob on d p goals w f few (ReadFailed role)
-    (subst (λ j. HasFilesCause told before now j (ReadFailed role)) (sym (h.1.only job reads)) h.2)
+complete told before now words ob on Done h job reads can = inl refl
+complete told before now words ob on (Usage fault) h job reads can = absurd (h.1.no_job job reads)
+complete told before now words ob on (WriteFailed target) h job reads can = absurd (no_write told before now job ob on job.command can h.1)
+complete told before now words ob on OutOfMemory h job reads can = inr refl
+complete told before now words ob on (Refused refusal) h job reads can = inr (asked_complete told before now words ob on (Refused refusal) job h.0 reads can h.1 h.2)
+complete told before now words ob on (Limit fault) h job reads can = inr (asked_complete told before now words ob on (Limit fault) job h.0 reads can h.1 h.2)
+complete told before now words ob on (ReadFailed role) h job reads can = inr (asked_complete told before now words ob on (ReadFailed role) job h.0 reads can h.1 h.2)
 
 -- a cause stays where a status may become another
 pub cause_kept : (told : List ℕ → Told) (before now : List ℕ → Bool → ℕ) (words : List (List ℕ)) (ob on : ℕ) (s r : Status)

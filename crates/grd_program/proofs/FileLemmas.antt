@@ -1,12 +1,10 @@
 -- What was read of a file, as a fact on what its shelf tells.
-use Rattle.std.proofs.Common.{◌≡◌, ℕ, ◌^◌, ◌≤◌, List, [], length, Option, Some, None, sym, subst, ◌∙◌, refl, ap, ◌⊎◌, inl, inr, arith}
-use Rattle.std.specs.Prelude.{IsSomeAnd, IfSome, IfOk, OnOk, Result, Ok, Err, IsTrue, ◌↔◌, Bool, false}
+use Rattle.std.proofs.Common.{◌≡◌, ℕ, ◌^◌, ◌≤◌, List, [], ◌++◌, length, Option, Some, None, sym, subst, refl, ap, ◌⊎◌, inl, inr, arith}
+use Rattle.std.specs.Prelude.{IsSomeAnd, IfSome, IfOk, OnOk, Result, Ok, Err}
 use Rattle.std.specs.Option.{option_map_or}
-use Rattle.std.proofs.lemmas.Bool.{false≢true}
 use Rattle.grd_io.specs.Bytes.{Told, IsWholeFile}
 use Rattle.pddl_reader.specs.Values.{PlainDomain, PlainProblem}
 use Rattle.pddl_reader.specs.Spelling.{IsDomainText, IsProblemText}
-use Rattle.grd_program.specs.declared.command.Command.{Command}
 use Rattle.grd_program.specs.declared.command.OptionName.TheVariants.{MaxStates}
 use Rattle.grd_program.specs.declared.status.UsageFault.{UsageFault}
 use Rattle.grd_program.specs.declared.words.WordsFault.{WordsFault}
@@ -15,8 +13,9 @@ use Rattle.grd_program.specs.Commands.{PlainJob, Reads, GivesNumber, IsNumber, I
 use Rattle.grd_base.specs.declared.ids.ActionId.{ActionId}
 use Rattle.strips_model.specs.Values.{PlainTask}
 use Rattle.strips_model.specs.Common.{AreRight}
-use Rattle.grd_program.specs.declared.command.Command.TheVariants.{Wcd}
-use Rattle.grd_program.specs.Forms.{IsFirstForm, FitsDomain}
+use Rattle.grd_program.specs.declared.report.Question.{Question}
+use Rattle.grd_program.specs.declared.report.Question.TheVariants.{Wcd}
+use Rattle.pddl_print.specs.Canonical.{domain_text, problem_text}
 use Rattle.grd_program.specs.Worlds.{spelled_task}
 use Rattle.grd_program.specs.Reports.{action_names, IsWcdReport, IsReportOn}
 use Rattle.grd_base.specs.declared.roles.FileRole.{FileRole}
@@ -26,7 +25,7 @@ use Rattle.grd_program.specs.declared.status.Status.{Status}
 use Rattle.grd_program.specs.declared.status.Status.TheVariants.{Refused, OutOfMemory}
 use Rattle.grd_program.specs.declared.status.Refusal.TheVariants.{Pddl}
 use Rattle.grd_program.specs.Causes.{HasText, SpellsOnlyGoals}
-use Rattle.grd_program.specs.Runs.{SpellsOnly, IsWorldReport, IsAnswerText, TakesFiles, ReadsOnly, HasOnlyUsageFault}
+use Rattle.grd_program.specs.Runs.{SpellsOnly, IsWorldReport, IsShownText, IsReportText, IsShowText, TakesTexts, TakesFiles, ReadsOnly, HasOnlyUsageFault}
 
 -- the text that was read has the property
 pub has : (told : Told) (bytes : List ℕ) (P : List ℕ → Type 0) → IsWholeFile told bytes → length bytes ≤ 2 ^ 20 → P bytes → HasText told P
@@ -36,41 +35,60 @@ has (Some file) bytes P whole short p =
     subst Q (sym whole) (short, p)
 
 -- the report over files that are taken
-pub world_report : (command : Command) (dt pt gt : Told) (d : PlainDomain) (p : PlainProblem) (goals : List (List (List ℕ))) (text : List ℕ)
-    → HasText dt (SpellsOnly IsDomainText d) → HasText pt (SpellsOnly IsProblemText p) → IsFirstForm d → FitsDomain d p
-    → HasText gt (λ t. SpellsOnlyGoals d t goals) → IsReportOn command d p goals text
-    → IfSome dt (λ df. IfSome pt (λ pf. IfSome gt (λ gf. IsWorldReport command df pf gf text)))
-world_report command None pt gt d p goals text hd hp form fit hg report = tt
-world_report command (Some df) None gt d p goals text hd hp form fit hg report = tt
-world_report command (Some df) (Some pf) None d p goals text hd hp form fit hg report = tt
-world_report command (Some None) (Some pf) (Some gf) d p goals text hd hp form fit hg report = absurd hd
-world_report command (Some (Some dt)) (Some None) (Some gf) d p goals text hd hp form fit hg report = absurd hp
-world_report command (Some (Some dt)) (Some (Some pt)) (Some None) d p goals text hd hp form fit hg report = absurd hg
-world_report command (Some (Some dt)) (Some (Some pt)) (Some (Some gt)) d p goals text hd hp form fit hg report = record {
-  domain_text = dt;
-  problem_text = pt;
-  goals_text = gt;
-  domain_there = refl;
-  problem_there = refl;
-  goals_there = refl;
-  domain_short = hd.0;
-  problem_short = hp.0;
-  goals_short = hg.0;
-  domain = d;
-  problem = p;
-  goals = goals;
-  spelled = record { domain = hd.1.0; problem = hp.1.0; form = form; fits = fit; gives = hg.1.spells };
-  report = report;
-}
+pub report_text_is : (question : Question) (told : List ℕ → Told) (job : PlainJob) (d : PlainDomain) (p : PlainProblem) (goals : List (List (List ℕ))) (text : List ℕ)
+    → TakesFiles told job d p goals → IsReportOn question d p goals text → IsReportText question told job text
+report_text_is question told job d p goals text taken report =
+    each (told job.domain) (told job.problem) (told job.goals) taken.world.texts.takes_domain taken.world.texts.takes_problem taken.takes_goals
+  where
+    each : (dt pt gt : Told) → HasText dt (SpellsOnly IsDomainText d) → HasText pt (SpellsOnly IsProblemText p) → HasText gt (λ t. SpellsOnlyGoals d t goals)
+        → IfSome dt (λ df. IfSome pt (λ pf. IfSome gt (λ gf. IsWorldReport question df pf gf text)))
+    each None pt gt hd hp hg = tt
+    each (Some df) None gt hd hp hg = tt
+    each (Some df) (Some pf) None hd hp hg = tt
+    each (Some None) (Some pf) (Some gf) hd hp hg = absurd hd
+    each (Some (Some dt)) (Some None) (Some gf) hd hp hg = absurd hp
+    each (Some (Some dt)) (Some (Some pt)) (Some None) hd hp hg = absurd hg
+    each (Some (Some dt)) (Some (Some pt)) (Some (Some gt)) hd hp hg = record {
+      domain_text = dt;
+      problem_text = pt;
+      goals_text = gt;
+      domain_there = refl;
+      problem_there = refl;
+      goals_there = refl;
+      domain_short = hd.0;
+      problem_short = hp.0;
+      goals_short = hg.0;
+      domain = d;
+      problem = p;
+      goals = goals;
+      spelled = record { domain = hd.1.0; problem = hp.1.0; form = taken.world.form; fits = taken.world.fits; gives = hg.1.spells };
+      report = report;
+    }
 
-pub answer_text_is : (told : List ℕ → Told) (words : List (List ℕ)) (job : PlainJob) (d : PlainDomain) (p : PlainProblem) (goals : List (List (List ℕ))) (text : List ℕ)
-    → Reads words job → TakesFiles told job d p goals → IsReportOn job.command d p goals text → IsAnswerText told words text
-answer_text_is told words job d p goals text reads taken report = record {
-  job = job;
-  reads = reads;
-  reports = world_report job.command (told job.domain) (told job.problem) (told job.goals) d p goals text
-      taken.world.takes_domain taken.world.takes_problem taken.world.form taken.world.fits taken.takes_goals report;
-}
+-- the canonical texts of files that are taken
+pub show_text_is : (told : List ℕ → Told) (job : PlainJob) (d : PlainDomain) (p : PlainProblem) (text : List ℕ)
+    → TakesTexts told job d p → text ≡ domain_text d ++ problem_text p → IsShowText told job text
+show_text_is told job d p text taken shown = each (told job.domain) (told job.problem) taken.takes_domain taken.takes_problem
+  where
+    each : (dt pt : Told) → HasText dt (SpellsOnly IsDomainText d) → HasText pt (SpellsOnly IsProblemText p)
+        → IfSome dt (λ df. IfSome pt (λ pf. IsShownText df pf text))
+    each None pt hd hp = tt
+    each (Some df) None hd hp = tt
+    each (Some None) (Some pf) hd hp = absurd hd
+    each (Some (Some dt)) (Some None) hd hp = absurd hp
+    each (Some (Some dt)) (Some (Some pt)) hd hp = record {
+      domain_bytes = dt;
+      problem_bytes = pt;
+      domain_there = refl;
+      problem_there = refl;
+      domain_short = hd.0;
+      problem_short = hp.0;
+      domain = d;
+      problem = p;
+      is_domain = hd.1.0;
+      is_problem = hp.1.0;
+      shown = shown;
+    }
 
 pub ok_more : {T E : Type 0} (P Q : T → Type 0) (r : Result T E) → ((x : T) → P x → Q x) → IfOk r P → IfOk r Q
 ok_more P Q (Ok x) more p = more x p
@@ -94,9 +112,9 @@ some_states words job reads = at_least job.limits.states reads.states
     at_least n (inr (none, is)) = omega arith
 
 -- the report of 'wcd' over the world's task
-pub wcd_report_on : (command : Command) (d : PlainDomain) (p : PlainProblem) (goals : List (List (List ℕ))) (t : PlainTask) (found : List (Option (List ActionId))) (text : List ℕ)
-    → command ≡ Wcd → t ≡ spelled_task d p goals → AreRight t [] found → IsWcdReport t (action_names d) found text → IsReportOn command d p goals text
-wcd_report_on command d p goals t found text is same right report =
+pub wcd_report_on : (question : Question) (d : PlainDomain) (p : PlainProblem) (goals : List (List (List ℕ))) (t : PlainTask) (found : List (Option (List ActionId))) (text : List ℕ)
+    → question ≡ Wcd → t ≡ spelled_task d p goals → AreRight t [] found → IsWcdReport t (action_names d) found text → IsReportOn question d p goals text
+wcd_report_on question d p goals t found text is same right report =
     subst (λ k. IsReportOn k d p goals text) (sym is)
     (found, subst (λ u. AreRight u [] found) same right, subst (λ u. IsWcdReport u (action_names d) found text) same report)
 
@@ -134,7 +152,7 @@ module _ (words : List (List ℕ)) (r : Result PlainJob WordsFault)
       none job (inl e) = cc
       none job (inr e) = cc
 
--- what a reading of a domain or a problem says by its clause, where it answers a value or a fault
+-- what a reading of a domain or a problem says by its clauses, where it answers a value or a fault
 module _ {V : Type 0} (Spells : V → Type 0) (r : Result V PddlFault) (exactly : (x : V) → Spells x → (r ≡ Ok x) ⊎ (r ≡ Err PddlMemory)) where
   pub only_value : (x : V) → r ≡ Ok x → (y : V) → Spells y → y ≡ x
   only_value x is y s = one (exactly y s)
@@ -149,6 +167,14 @@ module _ {V : Type 0} (Spells : V → Type 0) (r : Result V PddlFault) (exactly 
       none : (r ≡ Ok y) ⊎ (r ≡ Err PddlMemory) → ⊥
       none (inl e) = cc
       none (inr e) = plain cc
+
+pub only_fault : {V : Type 0} (F : PddlFault → Type 0) (r : Result V PddlFault) → ((f : PddlFault) → F f → (r ≡ Err f) ⊎ (r ≡ Err PddlMemory))
+    → (fault : PddlFault) → r ≡ Err fault → (fault ≡ PddlMemory → ⊥) → (other : PddlFault) → F other → other ≡ fault
+only_fault F r exactly fault is plain other h = one (exactly other h)
+  where
+    one : (r ≡ Err other) ⊎ (r ≡ Err PddlMemory) → other ≡ fault
+    one (inl e) = cc
+    one (inr e) = absurd (plain cc)
 
 pub plain_fault : (F : PddlFault → Type 0) (fault : PddlFault) → (fault ≡ PddlMemory) ⊎ F fault → (fault ≡ PddlMemory → ⊥) → F fault
 plain_fault F fault (inl memory) plain = absurd (plain memory)

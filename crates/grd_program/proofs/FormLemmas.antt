@@ -1,5 +1,5 @@
 -- What the tests of a domain and a problem say together.
-use Rattle.std.proofs.Common.{◌≡◌, ◌≢◌, ℕ, ◌+◌, ◌≤◌, Bool, true, ◌&&◌, ◌==◌, List, [], length, map, refl, sym, ap, ◌∙◌, subst, arith, Bor}
+use Rattle.std.proofs.Common.{◌≡◌, ◌≢◌, ℕ, ◌+◌, ◌≤◌, Bool, true, ◌&&◌, ◌==◌, List, [], length, map, sym, ap, ◌∙◌, subst, arith, Bor}
 use Rattle.std.specs.Prelude.{IsTrue, ◌↔◌, nat_le}
 use Rattle.std.specs.List.{All, AllPairs, Any, list_any, list_all}
 use Rattle.std.specs.Str.{bytes_eq}

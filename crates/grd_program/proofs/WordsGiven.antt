@@ -7,10 +7,9 @@ use Rattle.std.proofs.lemmas.List.{get_or_default}
 use Rattle.std.proofs.lemmas.List.Elements.{All-contains, All-nil, All-cons, All-append, Contains-append_left, Contains-append_right, Contains-append_cases, Contains-push}
 use Rattle.grd_base.specs.declared.limits.Limits.{Limits}
 use Rattle.grd_program.specs.declared.command.Command.{Command}
-use Rattle.grd_program.specs.declared.command.Command.TheVariants.{Cost, Wcd}
 use Rattle.grd_program.specs.declared.command.OptionName.{OptionName}
 use Rattle.grd_program.specs.declared.command.OptionName.TheVariants.{Domain, Problem, Goals, MaxStates}
-use Rattle.grd_program.specs.Commands.{Item, PlainJob, Reads, AreItemsOf, GivesNumber, command_text, required_of, options_of, IsNumber, Gives, IsGiven, NotGiven, GivesNoNumber, IsFirstWith, range_of}
+use Rattle.grd_program.specs.Commands.{Item, PlainJob, Reads, AreItemsOf, GivesNumber, GivesText, command_text, required_of, options_of, IsNumber, Gives, IsGiven, NotGiven, GivesNoNumber, IsFirstWith, range_of}
 use Rattle.grd_program.specs.Words.{HasNoRepeats, ReadsNumber, ReadsLimits, with_number_of, IsJob}
 use Rattle.grd_program.specs.declared.words.TheConstants.{DEFAULT_LIMITS}
 
@@ -37,6 +36,13 @@ gives_once items name v w once a b =
         | inr behind ↦ absurd (once b.0 a.0 first behind a.1 (ap (λ i. i.name) at_b ∙ sym (ap (λ i. i.name) a.2)))
       ]
     ]
+
+-- nor is it given a text and none
+pub text_once : (items : List Item) (name : OptionName) (v w : List ℕ) → HasNoRepeats items → GivesText items name v → GivesText items name w → v ≡ w
+text_once items name v w once (inl a) (inl b) = gives_once items name v w once a b
+text_once items name v w once (inl a) (inr (absent, is)) = absurd (absent (v, a))
+text_once items name v w once (inr (absent, is)) (inl b) = absurd (absent (w, b))
+text_once items name v w once (inr (absent, is)) (inr (none, same)) = is ∙ sym same
 
 -- the name at a place is the first with a property that none before it has
 pub first_at : (names : List OptionName) (P : OptionName → Type 0) (i : ℕ) (d : OptionName) → i < length names
@@ -117,11 +123,6 @@ pub both_read : (front names : List OptionName) (items : List Item) (a b : Limit
 both_read front names items a b (Ok limits) first second = both_limits front names items a b limits first second
 both_read front names items a b (Err name) first second = first_behind front names (GivesNoNumber items) name first.good second
 
--- every command must have the three files
-pub all_files : (command : Command) (P : OptionName → Type 0) → All P (required_of command) → P Domain × P Problem × P Goals
-all_files Cost P all = (all 0 Domain (omega arith), all 1 Domain (omega arith), all 2 Domain (omega arith))
-all_files Wcd P all = (all 0 Domain (omega arith), all 1 Domain (omega arith), all 2 Domain (omega arith))
-
 -- the numbers that all options of a command give are those that the items give
 states_given : (command : Command) (items : List Item) (a b : ℕ) → All (λ item. Contains (options_of command) item.name) items
     → ReadsNumber (options_of command) items MaxStates a b → GivesNumber items MaxStates a b
@@ -135,12 +136,13 @@ states_given command items a b options (inr (absent, is)) = inr (none, is)
 
 -- a command and its items, with the job and its limits, are what the words ask for
 pub job_read : (command : Command) (words : List (List ℕ)) (items : List Item) (limits : Limits) (job : PlainJob) → AreItemsOf command words items
-    → ReadsLimits (options_of command) items DEFAULT_LIMITS limits → IsJob command items limits job → Reads (command_text command ∷ words) job
-job_read command words items limits job good read is = record {
+    → All (IsGiven items) (required_of command) → ReadsLimits (options_of command) items DEFAULT_LIMITS limits → IsJob command items limits job → Reads (command_text command ∷ words) job
+job_read command words items limits job good given read is = record {
   rest = words;
   items = items;
   whole = ap (λ c. command_text c ∷ words) (sym is.command_is);
   are_items = subst (λ c. AreItemsOf c words items) (sym is.command_is) good;
+  required = subst (λ c. All (IsGiven items) (required_of c)) (sym is.command_is) given;
   domain = is.domain;
   problem = is.problem;
   goals = is.goals;

@@ -5,21 +5,20 @@ use Rattle.std.specs.Str.Parse.{digits_value}
 use Rattle.std.proofs.Math.Seq.{get_or-append_seam}
 use Rattle.std.proofs.lemmas.Bool.{cases_order}
 use Rattle.std.proofs.lemmas.List.{append-nil, get_or_append_left}
-use Rattle.std.proofs.lemmas.List.Elements.{All-nil, All-cons, All-contains, Contains-append_right}
+use Rattle.std.proofs.lemmas.List.Elements.{All-contains, Contains-append_right}
 use Rattle.grd_base.specs.declared.limits.Limits.{Limits}
 use Rattle.grd_program.specs.declared.command.Command.{Command}
-use Rattle.grd_program.specs.declared.command.Command.TheVariants.{Cost, Wcd}
 use Rattle.grd_program.specs.declared.command.OptionName.{OptionName}
 use Rattle.grd_program.specs.declared.command.OptionName.TheVariants.{Domain, Problem, Goals, MaxStates}
 use Rattle.grd_program.specs.declared.status.UsageFault.{UsageFault}
 use Rattle.grd_program.specs.declared.status.UsageFault.TheVariants.{NoCommand, UnknownCommand, BadItem, Repeated, Missing, BadNumber}
-use Rattle.grd_program.specs.Commands.{Item, IsValue, IsNumber, AreItemsOf, Gives, IsGiven, NotGiven, GivesNumber, GivesNoNumber, IsFirstBad, IsSecondBad, IsFirstRepeated, IsFirstWith, HasFaultAt, AreItemsWith, IsUsageFault, PlainJob, Reads, command_text, flag_of, joined_of, required_of, options_of}
+use Rattle.grd_program.specs.Commands.{Item, IsValue, IsNumber, AreItemsOf, IsGiven, NotGiven, GivesNumber, GivesText, GivesNoNumber, IsFirstBad, IsSecondBad, IsFirstRepeated, IsFirstWith, HasFaultAt, AreItemsWith, IsUsageFault, PlainJob, Reads, command_text, flag_of, joined_of, required_of, options_of}
 use Rattle.grd_program.specs.declared.words.WordsFault.{WordsFault}
 use Rattle.grd_program.specs.declared.words.WordsFault.TheVariants.{Usage, OutOfMemory}
 use Rattle.grd_program.specs.Words.{HasNoRepeats}
 use Rattle.grd_program.proofs.WordsTable.{same_command, same_option, same_joined_option, flag_not_joined}
 use Rattle.grd_program.proofs.WordsItems.{Begins, Ends, items_once}
-use Rattle.grd_program.proofs.WordsGiven.{gives_once}
+use Rattle.grd_program.proofs.WordsGiven.{gives_once, text_once}
 
 -- where the items in front of words end, and why
 data Stop : Type 0 where
@@ -133,9 +132,10 @@ outcome_of (Misgives name) = Faulty (BadNumber name)
 -- the items ask for the job
 record AskFor (command : Command) (items : List Item) (job : PlainJob) : Type 0 where
   command_is : job.command ≡ command
-  domain : Gives items Domain job.domain
-  problem : Gives items Problem job.problem
-  goals : Gives items Goals job.goals
+  required : All (IsGiven items) (required_of command)
+  domain : GivesText items Domain job.domain
+  problem : GivesText items Problem job.problem
+  goals : GivesText items Goals job.goals
   states : GivesNumber items MaxStates 100000 job.limits.states
   sets : job.limits.sets ≡ 200000
 
@@ -163,18 +163,7 @@ first_once names P m n a b =
 first_among : (names : List OptionName) (P : OptionName → Type 0) (n : OptionName) → IsFirstWith names P n → Contains names n
 first_among names P n first = subst (λ ns. Contains ns n) (sym first.whole) (Contains-append_right first.before (n ∷ first.behind) n (0, omega arith, refl))
 
--- a job has what its command must have
-files_given : (items : List Item) (job : PlainJob) → Gives items Domain job.domain → Gives items Problem job.problem → Gives items Goals job.goals → All (IsGiven items) (Domain ∷ Problem ∷ Goals ∷ [])
-files_given items job domain problem goals =
-    All-cons (IsGiven items) Domain (Problem ∷ Goals ∷ []) (job.domain, domain)
-    (All-cons (IsGiven items) Problem (Goals ∷ []) (job.problem, problem)
-    (All-cons (IsGiven items) Goals [] (job.goals, goals) (All-nil (IsGiven items))))
-
-asked_given : (command : Command) (items : List Item) (job : PlainJob) → AskFor command items job → All (IsGiven items) (required_of command)
-asked_given Cost items job ask = files_given items job ask.domain ask.problem ask.goals
-asked_given Wcd items job ask = files_given items job ask.domain ask.problem ask.goals
-
--- so none of it is missing
+-- where all is given that the command must have, none of it is missing
 missing_given : (command : Command) (items : List Item) (name : OptionName) → IsFirstWith (required_of command) (NotGiven items) name → All (IsGiven items) (required_of command) → ⊥
 missing_given command items name first given = first.has (All-contains (IsGiven items) (required_of command) name given (first_among (required_of command) (NotGiven items) name first))
 
@@ -204,9 +193,9 @@ asked_good command items job MaxStates once ask bad = number_good items MaxState
 asked_once : (command : Command) (items : List Item) (j k : PlainJob) → HasNoRepeats items → AskFor command items j → AskFor command items k → j ≡ k
 asked_once command items j k once a b =
     let command_is : j.command ≡ k.command = a.command_is ∙ sym b.command_is in
-    let domain_is : j.domain ≡ k.domain = gives_once items Domain j.domain k.domain once a.domain b.domain in
-    let problem_is : j.problem ≡ k.problem = gives_once items Problem j.problem k.problem once a.problem b.problem in
-    let goals_is : j.goals ≡ k.goals = gives_once items Goals j.goals k.goals once a.goals b.goals in
+    let domain_is : j.domain ≡ k.domain = text_once items Domain j.domain k.domain once a.domain b.domain in
+    let problem_is : j.problem ≡ k.problem = text_once items Problem j.problem k.problem once a.problem b.problem in
+    let goals_is : j.goals ≡ k.goals = text_once items Goals j.goals k.goals once a.goals b.goals in
     let states_are : j.limits.states ≡ k.limits.states = number_once items MaxStates 100000 j.limits.states k.limits.states once a.states b.states in
     let sets_are : j.limits.sets ≡ k.limits.sets = a.sets ∙ sym b.sets in
     same_job j k command_is domain_is problem_is goals_is states_are sets_are
@@ -225,9 +214,9 @@ asked_once command items j k once a b =
 -- items up to the last word ask for one thing, or lack one
 end_once : (command : Command) (items : List Item) (a b : End) → HasNoRepeats items → IsEnd command items a → IsEnd command items b → a ≡ b
 end_once command items (Whole j) (Whole k) once a b = ap Whole (asked_once command items j k once a b)
-end_once command items (Whole j) (Lacks name) once a b = absurd (missing_given command items name b (asked_given command items j a))
+end_once command items (Whole j) (Lacks name) once a b = absurd (missing_given command items name b a.required)
 end_once command items (Whole j) (Misgives name) once a b = absurd (asked_good command items j name once a b.1.has)
-end_once command items (Lacks name) (Whole k) once a b = absurd (missing_given command items name a (asked_given command items k b))
+end_once command items (Lacks name) (Whole k) once a b = absurd (missing_given command items name a b.required)
 end_once command items (Lacks name) (Lacks other) once a b = ap Lacks (first_once (required_of command) (NotGiven items) name other a b)
 end_once command items (Lacks name) (Misgives other) once a b = absurd (missing_given command items name a b.0)
 end_once command items (Misgives name) (Whole k) once a b = absurd (asked_good command items k name once b a.1.has)
@@ -376,6 +365,7 @@ from_reads words job h = inr (inr (record {
       Whole job,
       record {
         command_is = refl;
+        required = h.required;
         domain = h.domain;
         problem = h.problem;
         goals = h.goals;

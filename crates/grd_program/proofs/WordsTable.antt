@@ -4,7 +4,7 @@ use Rattle.std.specs.List.{All}
 use Rattle.std.specs.Str.{bytes_eq}
 use Rattle.std.proofs.lemmas.List.Elements.{All-head, All-tail, All-contains}
 use Rattle.grd_program.specs.declared.command.Command.{Command}
-use Rattle.grd_program.specs.declared.command.Command.TheVariants.{Cost, Wcd}
+use Rattle.grd_program.specs.declared.command.Command.TheVariants.{Cost, Wcd, Show}
 use Rattle.grd_program.specs.declared.command.OptionName.{OptionName}
 use Rattle.grd_program.specs.declared.command.OptionName.TheVariants.{Domain, Problem, Goals, MaxStates}
 use Rattle.grd_program.specs.Commands.{BeginsNoItem, command_text, flag_of, joined_of, options_of}
@@ -12,11 +12,14 @@ use Rattle.grd_program.specs.Words.{HasNoEquals}
 
 -- the command and the option that a word names
 abbrev command_named : List ℕ → Option Command
-command_named word = cond (bytes_eq word (command_text Cost)) (Some Cost) (cond (bytes_eq word (command_text Wcd)) (Some Wcd) None)
+command_named word = cond (bytes_eq word (command_text Cost)) (Some Cost)
+    (cond (bytes_eq word (command_text Wcd)) (Some Wcd)
+    (cond (bytes_eq word (command_text Show)) (Some Show) None))
 
 named-command_text : (c : Command) → command_named (command_text c) ≡ Some c
 named-command_text Cost = refl
 named-command_text Wcd = refl
+named-command_text Show = refl
 
 abbrev pub option_named : List ℕ → Option OptionName
 option_named word = cond (bytes_eq word (flag_of Domain)) (Some Domain)

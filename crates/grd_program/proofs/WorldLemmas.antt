@@ -1,20 +1,20 @@
 -- The world of a domain and a problem, and its task.
 use Rattle.std.proofs.Common.{◌≡◌, ◌≢◌, ℕ, ◌+◌, ◌^◌, ◌<◌, ◌≤◌, Bool, true, false, cond, not, ◌||◌, ◌&&◌, List, [], ◌∷◌, ◌++◌, length, map, filter, get_or, take, refl, sym, ◌∙◌, ap, subst, arith, length-take, append-nil}
 use mathlib.Core.Path.{ap₂}
-use Rattle.std.specs.Prelude.{AllPairs, Any, Contains, ◌↔◌}
-use Rattle.std.specs.List.{All, list_any}
+use Rattle.std.specs.Prelude.{AllPairs}
+use Rattle.std.specs.List.{list_any}
 use Rattle.std.specs.Str.{bytes_eq}
 use Rattle.std.proofs.lemmas.Bool.{false_from_ne_true}
-use Rattle.std.proofs.lemmas.List.{length-map, map_more, map_push, get_or-map, get_or-take}
-use Rattle.std.proofs.lemmas.List.Elements.{All-filter, All-map, All-from_get_or, All-from_recursion, All-weaker, filter-append}
-use Rattle.std.proofs.lemmas.List.Folds.{list_any_none, list_any_more, list_any-append, Any-from_list_any, list_any-from_Any}
+use Rattle.std.proofs.lemmas.List.{length-map, map_more, map_push, get_or-take}
+use Rattle.std.proofs.lemmas.List.Elements.{All-filter, All-map, All-from_get_or, All-from_recursion, filter-append}
+use Rattle.std.proofs.lemmas.List.Folds.{list_any_none, list_any_more, list_any-append}
 use Rattle.grd_base.specs.declared.ids.AtomId.{AtomId}
 use Rattle.strips_model.specs.Values.{GroundAction, Goal, PlainTask, AreAtoms, IsActionBelow, IsTask}
 use Rattle.strips_model.specs.Worlds.{Instance, World, has_atom, numbers_of, is_blocked, action_of, goal_of, task_of}
 use Rattle.pddl_reader.specs.Values.{PlainPredicate, PlainLiteral, PlainSchema}
 use Rattle.grd_program.specs.Names.{with_name, HaveSame, world_with}
 use Rattle.grd_program.specs.Worlds.{predicate_of, positives, negatives, instance_of}
-use Rattle.grd_program.proofs.NameLemmas.{same_bytes, bytes_same, Contains-from_has, has-from_Contains}
+use Rattle.grd_program.proofs.NameLemmas.{same_bytes}
 use Rattle.grd_program.proofs.AtomLemmas.{places_rise, places_below}
 
 abbrev pub names_of : List PlainPredicate → List (List ℕ)
@@ -148,36 +148,6 @@ action_is w a pre add del blocked pre_names add_names del_names block_names np n
     let dels : del ≡ numbers_of bytes_eq w (negatives a.effect) = ed ∙ ap (numbers_of bytes_eq w) nd in
     let blocks : blocked ≡ is_blocked bytes_eq w (positives a.pre) = eb ∙ ap (is_blocked bytes_eq w) nb in
     λ i. record { pre = pres i; add = adds i; del = dels i; blocked = blocks i }
-
--- a mapped list has a property where the list does
-all_mapped : {A B : Type 0} (P : B → Type 0) (f : A → B) (xs : List A) → All P (map f xs) → All (λ x. P (f x)) xs
-all_mapped P f xs all k d within = subst P (get_or-map f xs k d (f d) within) (all k (f d) (omega (arith, length-map xs f)))
-
-module _ (names : List (List ℕ)) (predicates : List PlainPredicate) (same : HaveSame names (names_of predicates)) where
-  declared_at : (x : List ℕ) → Contains names x ↔ Any (λ q. q.name.text ≡ x) predicates
-  declared_at x = (
-    λ member. let found = Any-from_list_any (λ (q : PlainPredicate). bytes_eq q.name.text x) predicates
-        (sym (list_any-names predicates) ∙ sym (same x) ∙ has-from_Contains names x member) in
-        (found.0, found.1, found.2, found.3, same_bytes found.1.name.text x found.4),
-    λ any. Contains-from_has names x (same x ∙ list_any-names predicates ∙ list_any-from_Any (λ (q : PlainPredicate). bytes_eq q.name.text x) predicates
-        (any.0, any.1, any.2, any.3, bytes_same any.1.name.text x any.4)),
-  )
-    where
-      list_any-names : (ps : List PlainPredicate) → has_atom bytes_eq (names_of ps) x ≡ list_any (λ q. bytes_eq q.name.text x) ps
-      list_any-names [] = refl
-      list_any-names (q ∷ ps) = ap (λ b. bytes_eq q.name.text x || b) (list_any-names ps)
-
-  pub all_declared : (xs : List (List ℕ)) → All (Contains names) xs ↔ All (λ x. Any (λ q. q.name.text ≡ x) predicates) xs
-  all_declared xs = (
-    All-weaker (Contains names) (λ x. Any (λ q. q.name.text ≡ x) predicates) (λ x. (declared_at x).0) xs,
-    All-weaker (λ x. Any (λ q. q.name.text ≡ x) predicates) (Contains names) (λ x. (declared_at x).1) xs,
-  )
-
-  pub literals_declared : (ls : List PlainLiteral) → All (Contains names) (map predicate_of ls) ↔ All (λ l. Any (λ q. q.name.text ≡ l.predicate.text) predicates) ls
-  literals_declared ls = (
-    λ all. all_mapped (λ x. Any (λ q. q.name.text ≡ x) predicates) predicate_of ls ((all_declared (map predicate_of ls)).0 all),
-    λ all. (all_declared (map predicate_of ls)).1 (All-map (λ x. Any (λ q. q.name.text ≡ x) predicates) predicate_of ls all),
-  )
 
 -- the names of the next action's effect are inserted
 pub next_effect : (names new added : List (List ℕ)) (actions items : List PlainSchema) (i : ℕ) (a : PlainSchema) (x : List ℕ) → items ≡ actions → i < length items

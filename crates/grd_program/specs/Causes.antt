@@ -1,5 +1,5 @@
 -- Why a file was not taken.
-use Rattle.std.specs.Prelude.{◌≡◌, ◌≢◌, ℕ, ◌^◌, ◌≤◌, Bool, false, List, length, Option, IfSome, IsSomeAnd}
+use Rattle.std.specs.Prelude.{◌≡◌, ◌≢◌, ℕ, ◌^◌, ◌≤◌, Bool, false, List, length, IfSome, IsSomeAnd}
 use Rattle.grd_io.specs.Bytes.{Told, IsLongerFile}
 use Rattle.grd_io.specs.Causes.{Rose}
 use Rattle.grd_base.specs.declared.roles.FileRole.{FileRole}
@@ -14,7 +14,7 @@ use Rattle.goal_files.specs.declared.faults.GoalFault.{GoalFault}
 use Rattle.goal_files.specs.declared.faults.GoalFault.TheVariants.{OutOfMemory as GoalsOutOfMemory}
 use Rattle.grd_program.specs.Forms.{IsFirstForm, FitsDomain}
 use Rattle.grd_program.specs.declared.status.Status.{Status}
-use Rattle.grd_program.specs.declared.status.Status.TheVariants.{Done, Refused, Usage, Limit, ReadFailed, WriteFailed, OutOfMemory}
+use Rattle.grd_program.specs.declared.status.Status.TheVariants.{Refused, ReadFailed, OutOfMemory}
 use Rattle.grd_program.specs.declared.status.Refusal.TheVariants.{NotYet, TooLong, Pddl, Goals as OfGoals}
 
 -- the file is there with at most 2^20 bytes, and its text has the property, where the shelf tells
@@ -39,12 +39,16 @@ HasReadCause role told before now name (ReadFailed named) = (named ≡ role) × 
 HasReadCause role told before now name OutOfMemory = Unit {0}
 HasReadCause role told before now name status = ⊥
 
--- this is at fault in the text, which spells no domain, or no problem
-abbrev pub FailsDomain : PddlFault → List ℕ → Type 0
-FailsDomain fault text = IsDomainFault text fault × ((d : PlainDomain) → IsDomainText text d → ⊥)
+-- this is at fault in the text, and nothing else, and the text spells no domain, or no problem
+pub record FailsDomain (fault : PddlFault) (text : List ℕ) : Type 0 where
+  pub has : IsDomainFault text fault
+  pub only : (other : PddlFault) → IsDomainFault text other → other ≡ fault
+  pub no_domain : (d : PlainDomain) → IsDomainText text d → ⊥
 
-abbrev pub FailsProblem : PddlFault → List ℕ → Type 0
-FailsProblem fault text = IsProblemFault text fault × ((p : PlainProblem) → IsProblemText text p → ⊥)
+pub record FailsProblem (fault : PddlFault) (text : List ℕ) : Type 0 where
+  pub has : IsProblemFault text fault
+  pub only : (other : PddlFault) → IsProblemFault text other → other ≡ fault
+  pub no_problem : (p : PlainProblem) → IsProblemText text p → ⊥
 
 -- what a status says of the domain's or the problem's file: that its text is at fault, or that it could
 -- not be read

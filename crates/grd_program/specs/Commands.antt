@@ -3,7 +3,7 @@ use Rattle.std.specs.Prelude.{◌≡◌, ◌≢◌, ℕ, ◌+◌, ◌<◌, ◌�
 use Rattle.std.specs.Str.Parse.{AllDigits, digits_value}
 use Rattle.grd_base.specs.declared.limits.Limits.{Limits}
 use Rattle.grd_program.specs.declared.command.Command.{Command}
-use Rattle.grd_program.specs.declared.command.Command.TheVariants.{Cost, Wcd}
+use Rattle.grd_program.specs.declared.command.Command.TheVariants.{Cost, Wcd, Show}
 use Rattle.grd_program.specs.declared.command.OptionName.{OptionName}
 use Rattle.grd_program.specs.declared.command.OptionName.TheVariants.{Domain, Problem, Goals, MaxStates}
 use Rattle.grd_program.specs.declared.status.UsageFault.{UsageFault}
@@ -14,14 +14,17 @@ use Rattle.grd_program.specs.declared.status.UsageFault.TheVariants.{NoCommand, 
 abbrev pub command_text : Command → List ℕ
 command_text Cost = codes "cost"
 command_text Wcd = codes "wcd"
+command_text Show = codes "show"
 
 abbrev pub required_of : Command → List OptionName
 required_of Cost = Domain ∷ Problem ∷ Goals ∷ []
 required_of Wcd = Domain ∷ Problem ∷ Goals ∷ []
+required_of Show = Domain ∷ Problem ∷ []
 
 abbrev pub optional_of : Command → List OptionName
 optional_of Cost = MaxStates ∷ []
 optional_of Wcd = MaxStates ∷ []
+optional_of Show = []
 
 abbrev pub options_of : Command → List OptionName
 options_of command = required_of command ++ optional_of command
@@ -101,7 +104,12 @@ GivesNumber items name default n =
     ((value : List ℕ) × (range : ℕ × ℕ) × Gives items name value × (range_of name ≡ Some range) × IsNumber range value n)
     ⊎ (NotGiven items name × (n ≡ default))
 
--- what the words ask for: the command, the names of its files and its limits
+-- the value that the option is given, or nothing where it is not given
+abbrev pub GivesText : List Item → OptionName → List ℕ → Type 0
+GivesText items name value = Gives items name value ⊎ (NotGiven items name × (value ≡ []))
+
+-- what the words ask for: the command, the names of its files and its limits; what the command does not
+-- have is empty
 pub record PlainJob : Type 0 where
   pub command : Command
   pub domain : List ℕ
@@ -110,15 +118,16 @@ pub record PlainJob : Type 0 where
   pub limits : Limits
 
 -- the words ask for this job; where no limit on states is given it is 100,000, and the limit on sets,
--- which neither command takes, is its default
+-- which no command takes yet, is its default
 pub record Reads (words : List (List ℕ)) (job : PlainJob) : Type 0 where
   pub rest : List (List ℕ)
   pub items : List Item
   pub whole : words ≡ command_text job.command ∷ rest
   pub are_items : AreItemsOf job.command rest items
-  pub domain : Gives items Domain job.domain
-  pub problem : Gives items Problem job.problem
-  pub goals : Gives items Goals job.goals
+  pub required : All (IsGiven items) (required_of job.command)
+  pub domain : GivesText items Domain job.domain
+  pub problem : GivesText items Problem job.problem
+  pub goals : GivesText items Goals job.goals
   pub states : GivesNumber items MaxStates 100000 job.limits.states
   pub sets : job.limits.sets ≡ 200000
 

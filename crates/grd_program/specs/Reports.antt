@@ -5,8 +5,8 @@ use Rattle.std.specs.Fmt.{decimal}
 use Rattle.grd_base.specs.declared.ids.ActionId.{ActionId}
 use Rattle.pddl_reader.specs.Values.{PlainDomain, PlainProblem}
 use Rattle.grd_program.specs.Worlds.{spelled_task}
-use Rattle.grd_program.specs.declared.command.Command.{Command}
-use Rattle.grd_program.specs.declared.command.Command.TheVariants.{Cost, Wcd}
+use Rattle.grd_program.specs.declared.report.Question.{Question}
+use Rattle.grd_program.specs.declared.report.Question.TheVariants.{Costs, Wcd}
 use Rattle.strips_model.specs.Values.{PlainTask, PlainWitness}
 use Rattle.strips_model.specs.Common.{AreRight, IsRightWcd}
 
@@ -68,9 +68,9 @@ action_names d = map (λ a. a.name.text) d.actions
 abbrev pub IsWcdReport : PlainTask → List (List ℕ) → List (Option (List ActionId)) → List ℕ → Type 0
 IsWcdReport t names found text = (wcd : Option PlainWitness) × IsRightWcd t [] wcd × (text ≡ wcd_report names found wcd)
 
--- the text is the command's report of what is right for the goals of this world
-abbrev pub IsReportOn : Command → PlainDomain → PlainProblem → List (List (List ℕ)) → List ℕ → Type 0
-IsReportOn Cost d p goals text =
+-- the text is the report that answers the question with what is right for the goals of this world
+abbrev pub IsReportOn : Question → PlainDomain → PlainProblem → List (List (List ℕ)) → List ℕ → Type 0
+IsReportOn Costs d p goals text =
     (found : List (Option (List ActionId))) × AreRight (spelled_task d p goals) [] found
     × (text ≡ cost_report (action_names d) found)
 IsReportOn Wcd d p goals text =

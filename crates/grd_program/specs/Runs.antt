@@ -1,5 +1,5 @@
 -- What a run of the program does.
-use Rattle.std.specs.Prelude.{◌≡◌, ◌≢◌, ℕ, ◌^◌, ◌<◌, ◌≤◌, ◌⊎◌, List, length, take, Bool, false, Option, Some, IfSome}
+use Rattle.std.specs.Prelude.{◌≡◌, ◌≢◌, ℕ, ◌^◌, ◌<◌, ◌≤◌, ◌⊎◌, List, ◌++◌, length, take, Bool, false, Option, Some, IfSome}
 use Rattle.grd_base.specs.declared.ids.GoalId.{GoalId}
 use Rattle.grd_base.specs.declared.roles.FileRole.TheVariants.{Domain, Problem, Goals}
 use Rattle.grd_io.specs.Bytes.{Told, extended, IsLongerFile}
@@ -11,7 +11,11 @@ use Rattle.pddl_reader.specs.Spelling.{IsDomainText, IsProblemText}
 use Rattle.goal_files.specs.Goals.{SpellsGoals}
 use Rattle.goal_files.specs.declared.faults.GoalFault.TheVariants.{OutOfMemory as GoalsOutOfMemory}
 use Rattle.pddl_reader.specs.declared.faults.PddlFault.TheVariants.{OutOfMemory as PddlOutOfMemory}
+use Rattle.pddl_print.specs.Canonical.{domain_text, problem_text}
 use Rattle.grd_program.specs.declared.command.Command.{Command}
+use Rattle.grd_program.specs.declared.command.Command.TheVariants.{Cost, Wcd, Show}
+use Rattle.grd_program.specs.declared.report.Question.{Question}
+use Rattle.grd_program.specs.declared.report.Question.TheVariants.{Costs, Wcd as OfWcd}
 use Rattle.grd_program.specs.declared.status.Status.{Status}
 use Rattle.grd_program.specs.declared.status.Status.TheVariants.{Done, Refused, Usage, Limit, ReadFailed, WriteFailed, OutOfMemory}
 use Rattle.grd_program.specs.declared.status.Refusal.TheVariants.{NotYet, TooLong, Pddl, Goals as OfGoals}
@@ -32,8 +36,9 @@ pub record SpellWorld (domain_text problem_text goals_text : List ℕ) (d : Plai
   pub fits : FitsDomain d p
   pub gives : SpellsGoals d goals_text goals
 
--- the text is the command's report over the world that the three files, of at most 2^20 bytes each, spell
-pub record IsWorldReport (command : Command) (domain_file problem_file goals_file : Option (List ℕ)) (text : List ℕ) : Type 0 where
+-- the text is the report that answers the question about the world that the three files, of at most 2^20
+-- bytes each, spell
+pub record IsWorldReport (question : Question) (domain_file problem_file goals_file : Option (List ℕ)) (text : List ℕ) : Type 0 where
   pub domain_text : List ℕ
   pub problem_text : List ℕ
   pub goals_text : List ℕ
@@ -47,20 +52,50 @@ pub record IsWorldReport (command : Command) (domain_file problem_file goals_fil
   pub problem : PlainProblem
   pub goals : List (List (List ℕ))
   pub spelled : SpellWorld domain_text problem_text goals_text domain problem goals
-  pub report : IsReportOn command domain problem goals text
+  pub report : IsReportOn question domain problem goals text
 
--- the words ask for a job, and the text is its report over its files, where the shelf tells them
+-- the text is the canonical text of the domain and of the problem that the two files, of at most 2^20
+-- bytes each, spell
+pub record IsShownText (domain_file problem_file : Option (List ℕ)) (text : List ℕ) : Type 0 where
+  pub domain_bytes : List ℕ
+  pub problem_bytes : List ℕ
+  pub domain_there : domain_file ≡ Some domain_bytes
+  pub problem_there : problem_file ≡ Some problem_bytes
+  pub domain_short : length domain_bytes ≤ 2 ^ 20
+  pub problem_short : length problem_bytes ≤ 2 ^ 20
+  pub domain : PlainDomain
+  pub problem : PlainProblem
+  pub is_domain : IsDomainText domain_bytes domain
+  pub is_problem : IsProblemText problem_bytes problem
+  pub shown : text ≡ domain_text domain ++ problem_text problem
+
+-- the same, where the shelf tells the job's files
+abbrev pub IsReportText : Question → (List ℕ → Told) → PlainJob → List ℕ → Type 0
+IsReportText question told job text =
+    IfSome (told job.domain) (λ domain_file. IfSome (told job.problem) (λ problem_file. IfSome (told job.goals) (λ goals_file.
+    IsWorldReport question domain_file problem_file goals_file text)))
+
+abbrev pub IsShowText : (List ℕ → Told) → PlainJob → List ℕ → Type 0
+IsShowText told job text =
+    IfSome (told job.domain) (λ domain_file. IfSome (told job.problem) (λ problem_file. IsShownText domain_file problem_file text))
+
+-- what the command prints for the job
+abbrev pub IsTextOf : Command → (List ℕ → Told) → PlainJob → List ℕ → Type 0
+IsTextOf Cost told job text = IsReportText Costs told job text
+IsTextOf Wcd told job text = IsReportText OfWcd told job text
+IsTextOf Show told job text = IsShowText told job text
+
+-- the words ask for a job, and the text is what its command prints for it
 pub record IsAnswerText (told : List ℕ → Told) (words : List (List ℕ)) (text : List ℕ) : Type 0 where
   pub job : PlainJob
   pub reads : Reads words job
-  pub reports : IfSome (told job.domain) (λ domain_file. IfSome (told job.problem) (λ problem_file. IfSome (told job.goals) (λ goals_file.
-      IsWorldReport job.command domain_file problem_file goals_file text)))
+  pub prints : IsTextOf job.command told job text
 
--- the output has grown by the whole report
+-- the output has grown by the whole text
 abbrev pub HasReported : (List ℕ → Told) → List (List ℕ) → Option (List ℕ) → Option (List ℕ) → Type 0
 HasReported told words before now = (text : List ℕ) × IsAnswerText told words text × (now ≡ extended before text)
 
--- the output has grown by a front of the report
+-- the output has grown by a front of the text
 abbrev pub HasReportedPartly : (List ℕ → Told) → List (List ℕ) → Option (List ℕ) → Option (List ℕ) → Type 0
 HasReportedPartly told words before now = (text : List ℕ) × IsAnswerText told words text × (n : ℕ) × (n ≤ length text) × (now ≡ extended before (take n text))
 
@@ -118,10 +153,14 @@ TakesProblem told problem p = HasText (told problem) (SpellsOnly IsProblemText p
 abbrev pub TakesGoals : (List ℕ → Told) → List ℕ → PlainDomain → List (List (List ℕ)) → Type 0
 TakesGoals told goals_file d goals = HasText (told goals_file) (λ text. SpellsOnlyGoals d text goals)
 
--- the domain and the problem of the job are taken, and are of the form that the commands take
-pub record TakesWorld (told : List ℕ → Told) (job : PlainJob) (d : PlainDomain) (p : PlainProblem) : Type 0 where
+-- the domain and the problem of the job are taken
+pub record TakesTexts (told : List ℕ → Told) (job : PlainJob) (d : PlainDomain) (p : PlainProblem) : Type 0 where
   pub takes_domain : TakesDomain told job.domain d
   pub takes_problem : TakesProblem told job.problem p
+
+-- and are of the form that the commands take which search
+pub record TakesWorld (told : List ℕ → Told) (job : PlainJob) (d : PlainDomain) (p : PlainProblem) : Type 0 where
+  pub texts : TakesTexts told job d p
   pub form : IsFirstForm d
   pub fits : FitsDomain d p
 
@@ -130,23 +169,28 @@ pub record TakesFiles (told : List ℕ → Told) (job : PlainJob) (d : PlainDoma
   pub world : TakesWorld told job d p
   pub takes_goals : TakesGoals told job.goals d goals
 
--- why there is no report over these three files; each answer comes only where the files before it
--- were taken
-abbrev pub HasFilesCause : (List ℕ → Told) → (List ℕ → Bool → ℕ) → (List ℕ → Bool → ℕ) → PlainJob → Status → Type 0
-HasFilesCause told before now job (Refused (TooLong Domain limit)) =
+-- why the domain or the problem was not taken; the problem's cause comes only where the domain was taken
+abbrev pub HasTextsCause : (List ℕ → Told) → (List ℕ → Bool → ℕ) → (List ℕ → Bool → ℕ) → PlainJob → Status → Type 0
+HasTextsCause told before now job (Refused (TooLong Domain limit)) =
     (limit ≡ 2 ^ 20) × IsQuiet before now × IsLongerFile (told job.domain) limit
-HasFilesCause told before now job (Refused (Pddl Domain fault)) =
+HasTextsCause told before now job (Refused (Pddl Domain fault)) =
     (fault ≢ PddlOutOfMemory) × IsQuiet before now × HasText (told job.domain) (FailsDomain fault)
-HasFilesCause told before now job (Refused (TooLong Problem limit)) =
+HasTextsCause told before now job (Refused (TooLong Problem limit)) =
     (limit ≡ 2 ^ 20) × IsQuiet before now × (d : PlainDomain) × TakesDomain told job.domain d × IsLongerFile (told job.problem) limit
-HasFilesCause told before now job (Refused (Pddl Problem fault)) =
+HasTextsCause told before now job (Refused (Pddl Problem fault)) =
     (fault ≢ PddlOutOfMemory) × IsQuiet before now × (d : PlainDomain) × TakesDomain told job.domain d × HasText (told job.problem) (FailsProblem fault)
+HasTextsCause told before now job (ReadFailed Domain) = OnlyRose before now job.domain
+HasTextsCause told before now job (ReadFailed Problem) =
+    ((d : PlainDomain) × TakesDomain told job.domain d) × OnlyRose before now job.problem
+HasTextsCause told before now job OutOfMemory = Unit {0}
+HasTextsCause told before now job status = ⊥
+
+-- why there is no report over the three files; each answer comes only where the files before it were taken
+abbrev pub HasFilesCause : (List ℕ → Told) → (List ℕ → Bool → ℕ) → (List ℕ → Bool → ℕ) → PlainJob → Status → Type 0
 HasFilesCause told before now job (Refused (NotYet Domain)) =
-    IsQuiet before now × (d : PlainDomain) × (p : PlainProblem) × TakesDomain told job.domain d × TakesProblem told job.problem p
-    × (IsFirstForm d → ⊥)
+    IsQuiet before now × (d : PlainDomain) × (p : PlainProblem) × TakesTexts told job d p × (IsFirstForm d → ⊥)
 HasFilesCause told before now job (Refused (NotYet Problem)) =
-    IsQuiet before now × (d : PlainDomain) × (p : PlainProblem) × TakesDomain told job.domain d × TakesProblem told job.problem p
-    × IsFirstForm d × (FitsDomain d p → ⊥)
+    IsQuiet before now × (d : PlainDomain) × (p : PlainProblem) × TakesTexts told job d p × IsFirstForm d × (FitsDomain d p → ⊥)
 HasFilesCause told before now job (Refused (TooLong Goals limit)) =
     (limit ≡ 2 ^ 20) × IsQuiet before now
     × (d : PlainDomain) × (p : PlainProblem) × TakesWorld told job d p × IsLongerFile (told job.goals) limit
@@ -157,13 +201,15 @@ HasFilesCause told before now job (Limit (States g limit)) =
     IsQuiet before now
     × (d : PlainDomain) × (p : PlainProblem) × (goals : List (List (List ℕ)))
     × TakesFiles told job d p goals × MeetsLimit job.limits.states (spelled_task d p goals) g limit
-HasFilesCause told before now job (ReadFailed Domain) = OnlyRose before now job.domain
-HasFilesCause told before now job (ReadFailed Problem) =
-    ((d : PlainDomain) × TakesDomain told job.domain d) × OnlyRose before now job.problem
 HasFilesCause told before now job (ReadFailed Goals) =
     ((d : PlainDomain) × (p : PlainProblem) × TakesWorld told job d p) × OnlyRose before now job.goals
-HasFilesCause told before now job OutOfMemory = Unit {0}
-HasFilesCause told before now job status = ⊥
+HasFilesCause told before now job status = HasTextsCause told before now job status
+
+-- why the command has no text for the job
+abbrev pub HasCommandCause : Command → (List ℕ → Told) → (List ℕ → Bool → ℕ) → (List ℕ → Bool → ℕ) → PlainJob → Status → Type 0
+HasCommandCause Cost told before now job status = HasFilesCause told before now job status
+HasCommandCause Wcd told before now job status = HasFilesCause told before now job status
+HasCommandCause Show told before now job status = HasTextsCause told before now job status
 
 -- the words ask for this job, and no other, and nothing in them is at fault
 pub record ReadsOnly (words : List (List ℕ)) (job : PlainJob) : Type 0 where
@@ -183,23 +229,26 @@ HasWordsCause words (Usage fault) = HasOnlyUsageFault words fault
 HasWordsCause words OutOfMemory = Unit {0}
 HasWordsCause words status = ⊥
 
--- why there is no report: the words are at fault, and then no count of the shelf changed, or the files
--- of the job are the cause
+-- why there is no text: the words are at fault, and then no count of the shelf changed, or the files of
+-- the job are the cause
 abbrev pub HasInputCause : (List ℕ → Told) → (List ℕ → Bool → ℕ) → (List ℕ → Bool → ℕ) → List (List ℕ) → Status → Type 0
 HasInputCause told before now words (Usage fault) = IsQuiet before now × HasOnlyUsageFault words fault
 HasInputCause told before now words OutOfMemory = Unit {0}
 HasInputCause told before now words status =
-    (job : PlainJob) × ReadsOnly words job × HasFilesCause told before now job status
+    (job : PlainJob) × ReadsOnly words job × HasCommandCause job.command told before now job status
+
+-- what the command takes for the job
+abbrev pub HasTaken : Command → (List ℕ → Told) → PlainJob → Type 0
+HasTaken Cost told job = (d : PlainDomain) × (p : PlainProblem) × (goals : List (List (List ℕ))) × TakesFiles told job d p goals
+HasTaken Wcd told job = (d : PlainDomain) × (p : PlainProblem) × (goals : List (List (List ℕ))) × TakesFiles told job d p goals
+HasTaken Show told job = (d : PlainDomain) × (p : PlainProblem) × TakesTexts told job d p
 
 -- the words were read and the files of the job taken, and no count of the shelf changed
 pub record HasPassed (told : List ℕ → Told) (before now : List ℕ → Bool → ℕ) (words : List (List ℕ)) : Type 0 where
   pub quiet : IsQuiet before now
   pub job : PlainJob
   pub reads : ReadsOnly words job
-  pub domain : PlainDomain
-  pub problem : PlainProblem
-  pub goals : List (List (List ℕ))
-  pub files : TakesFiles told job domain problem goals
+  pub taken : HasTaken job.command told job
 
 -- why the run ended so; Done comes only where no count changed
 abbrev pub HasCause : (List ℕ → Told) → (List ℕ → Bool → ℕ) → (List ℕ → Bool → ℕ) → List (List ℕ) → ℕ → ℕ → Status → Type 0
@@ -207,32 +256,59 @@ HasCause told before now words out_before out_now Done = HasPassed told before n
 HasCause told before now words out_before out_now (WriteFailed target) = HasPassed told before now words × Rose out_before out_now
 HasCause told before now words out_before out_now status = HasInputCause told before now words status
 
--- the files are there, each with at most 2^20 bytes, and spell this world
-pub record HasWorld (told : List ℕ → Told) (job : PlainJob) (d : PlainDomain) (p : PlainProblem) (goals : List (List (List ℕ))) : Type 0 where
-  pub domain_text : List ℕ
-  pub problem_text : List ℕ
-  pub goals_text : List ℕ
-  pub domain_there : told job.domain ≡ Some (Some domain_text)
-  pub problem_there : told job.problem ≡ Some (Some problem_text)
-  pub goals_there : told job.goals ≡ Some (Some goals_text)
-  pub domain_short : length domain_text ≤ 2 ^ 20
-  pub problem_short : length problem_text ≤ 2 ^ 20
-  pub goals_short : length goals_text ≤ 2 ^ 20
-  pub spelled : SpellWorld domain_text problem_text goals_text d p goals
+-- the domain and the problem are there, each with at most 2^20 bytes, and spell these
+pub record HasTexts (told : List ℕ → Told) (job : PlainJob) (d : PlainDomain) (p : PlainProblem) : Type 0 where
+  pub domain_bytes : List ℕ
+  pub problem_bytes : List ℕ
+  pub domain_there : told job.domain ≡ Some (Some domain_bytes)
+  pub problem_there : told job.problem ≡ Some (Some problem_bytes)
+  pub domain_short : length domain_bytes ≤ 2 ^ 20
+  pub problem_short : length problem_bytes ≤ 2 ^ 20
+  pub is_domain : IsDomainText domain_bytes d
+  pub is_problem : IsProblemText problem_bytes p
 
--- no count of the job rose: that of reading one of the files, or of writing the output
+-- with the goals, also at most 2^20 bytes, they spell this world
+pub record HasWorld (told : List ℕ → Told) (job : PlainJob) (d : PlainDomain) (p : PlainProblem) (goals : List (List (List ℕ))) : Type 0 where
+  pub texts : HasTexts told job d p
+  pub goals_bytes : List ℕ
+  pub goals_there : told job.goals ≡ Some (Some goals_bytes)
+  pub goals_short : length goals_bytes ≤ 2 ^ 20
+  pub form : IsFirstForm d
+  pub fits : FitsDomain d p
+  pub gives : SpellsGoals d goals_bytes goals
+
+-- no count of what every command does rose: that of reading the domain or the problem, or of writing
+-- the output
 pub record HasNoFault (before now : List ℕ → Bool → ℕ) (job : PlainJob) (out_before out_now : ℕ) : Type 0 where
   pub reads_domain : Rose (before job.domain false) (now job.domain false) → ⊥
   pub reads_problem : Rose (before job.problem false) (now job.problem false) → ⊥
-  pub reads_goals : Rose (before job.goals false) (now job.goals false) → ⊥
   pub writes : Rose out_before out_now → ⊥
 
--- where the words and the files are such, no count rose and no goal has more states than the limit,
--- the run is Done, or ends in want of memory
+-- the files spell a world, no count rose, and no goal has more states than the limit
+pub record CanReport (told : List ℕ → Told) (before now : List ℕ → Bool → ℕ) (job : PlainJob) (out_before out_now : ℕ) : Type 0 where
+  pub domain : PlainDomain
+  pub problem : PlainProblem
+  pub goals : List (List (List ℕ))
+  pub world : HasWorld told job domain problem goals
+  pub no_fault : HasNoFault before now job out_before out_now
+  pub reads_goals : Rose (before job.goals false) (now job.goals false) → ⊥
+  pub few : (g : GoalId) → g.0 < length goals → MoreThan job.limits.states (IsReachedFor (spelled_task domain problem goals) g) → ⊥
+
+-- the files spell a domain and a problem, and no count rose
+pub record CanShow (told : List ℕ → Told) (before now : List ℕ → Bool → ℕ) (job : PlainJob) (out_before out_now : ℕ) : Type 0 where
+  pub domain : PlainDomain
+  pub problem : PlainProblem
+  pub texts : HasTexts told job domain problem
+  pub no_fault : HasNoFault before now job out_before out_now
+
+-- the command has all that it needs for the job
+abbrev pub CanAnswer : Command → (List ℕ → Told) → (List ℕ → Bool → ℕ) → (List ℕ → Bool → ℕ) → PlainJob → ℕ → ℕ → Type 0
+CanAnswer Cost told before now job out_before out_now = CanReport told before now job out_before out_now
+CanAnswer Wcd told before now job out_before out_now = CanReport told before now job out_before out_now
+CanAnswer Show told before now job out_before out_now = CanShow told before now job out_before out_now
+
+-- where the command has all that it needs, the run is Done, or ends in want of memory
 abbrev pub IsComplete : (List ℕ → Told) → (List ℕ → Bool → ℕ) → (List ℕ → Bool → ℕ) → List (List ℕ) → ℕ → ℕ → Status → Type 0
 IsComplete told before now words out_before out_now status =
-    (job : PlainJob) (d : PlainDomain) (p : PlainProblem) (goals : List (List (List ℕ)))
-    → Reads words job → HasWorld told job d p goals
-    → HasNoFault before now job out_before out_now
-    → ((g : GoalId) → g.0 < length goals → MoreThan job.limits.states (IsReachedFor (spelled_task d p goals) g) → ⊥)
+    (job : PlainJob) → Reads words job → CanAnswer job.command told before now job out_before out_now
     → (status ≡ Done) ⊎ (status ≡ OutOfMemory)

@@ -10,7 +10,7 @@ use Rattle.grd_program.specs.declared.words.Item.{Item as ReadItem}
 use Rattle.grd_program.specs.declared.words.Front.{Front}
 use Rattle.grd_program.specs.declared.words.FrontFault.{FrontFault}
 use Rattle.grd_program.specs.declared.words.FrontFault.TheVariants.{First, Second, Repeated}
-use Rattle.grd_program.specs.Commands.{Item, PlainJob, IsItem, IsNumber, Gives, NotGiven, GivesNoNumber, IsFirstBad, IsSecondBad, IsFirstRepeated, options_of, range_of}
+use Rattle.grd_program.specs.Commands.{Item, PlainJob, IsItem, IsNumber, Gives, GivesText, NotGiven, GivesNoNumber, IsFirstBad, IsSecondBad, IsFirstRepeated, options_of, range_of}
 
 abbrev pub item_of : ReadItem → Item
 item_of item = record { name = item.name; value = item.value.now }
@@ -68,7 +68,7 @@ pub record ReadsLimits (names : List OptionName) (items : List Item) (before aft
 -- the job is that of the command, with what the items give, and has the limits
 pub record IsJob (command : Command) (items : List Item) (limits : Limits) (job : PlainJob) : Type 0 where
   pub command_is : job.command ≡ command
-  pub domain : Gives items Domain job.domain
-  pub problem : Gives items Problem job.problem
-  pub goals : Gives items Goals job.goals
+  pub domain : GivesText items Domain job.domain
+  pub problem : GivesText items Problem job.problem
+  pub goals : GivesText items Goals job.goals
   pub limits_are : job.limits ≡ limits

@@ -1,6 +1,6 @@
 -- The world that a domain, a problem and goals spell. Without parameters a ground atom and a
 -- ground action are their names.
-use Rattle.std.specs.Prelude.{◌≡◌, ℕ, Bool, not, List, map, filter, All}
+use Rattle.std.specs.Prelude.{ℕ, Bool, not, List, map, filter}
 use Rattle.std.specs.List.{list_any}
 use Rattle.std.specs.Str.{bytes_eq}
 use Rattle.pddl_reader.specs.Values.{PlainLiteral, PlainSchema, PlainDomain, PlainProblem}

@@ -1,16 +1,18 @@
 ghost use Rattle.std.specs.Prelude.{◌≡◌, ℕ, ◌^◌, ◌<◌, ◌≤◌, List, [], length, map, All, Bool, IfSome, IfOk, IfErr, OnOk, string_bytes};
 ghost use Rattle.std.specs.Option.{option_map};
 ghost use Rattle.strips_model.specs.Common.{AreRight};
+ghost use Rattle.pddl_reader.specs.Values.{PlainDomain, PlainProblem};
 ghost use Rattle.grd_program.specs.Forms.{IsFirstForm};
 ghost use Rattle.grd_program.specs.Causes.{IsQuiet};
 ghost use Rattle.grd_program.specs.Reports.{action_names, IsWcdReport, IsReportOn};
-ghost use Rattle.grd_program.specs.Runs.{TakesFiles, IsAnswerText, ReadsOnly, HasWordsCause, HasFilesCause, HasInputCause, HasSearchCause, HasAnswerCause, HasPassed};
+ghost use Rattle.grd_program.specs.Runs.{TakesFiles, IsReportText, IsTextOf, IsAnswerText, ReadsOnly, HasWordsCause, HasFilesCause, HasCommandCause, HasInputCause, HasSearchCause, HasAnswerCause, HasTaken, HasPassed};
 
 use crate::command::Command;
-use crate::files::{domain_of, goals_of, problem_of};
+use crate::files::{Texts, goals_of, read_texts};
 use crate::forms::check_forms;
 use crate::job::Job;
-use crate::report::{cost_report, wcd_report};
+use crate::report::{Question, cost_report, wcd_report};
+use crate::show::show_text;
 use crate::status::{LimitFault, Status};
 use crate::words::{WordsFault, read_words};
 use crate::world::task_of;
@@ -55,8 +57,7 @@ fn read_inputs<F: Shelf>(alloc: Global, shelf: &mut F, job: &Job) -> Result<Inpu
     ensures later { (x : List ℕ) (w : Bool) → F.faults shelf.old x w ≤ F.faults shelf.new x w }
     ensures quiet { OnOk result (IsQuiet (F.faults shelf.old) (F.faults shelf.new)) }
 {
-    let domain = domain_of(alloc, shelf, &job.domain)?;
-    let problem = problem_of(alloc, shelf, &job.problem)?;
+    let Texts { domain, problem } = read_texts(alloc, shelf, job)?;
     check_forms(alloc, &domain, &problem)?;
     let goals = goals_of(alloc, shelf, &job.goals, &domain)?;
     Ok(Inputs {
@@ -103,10 +104,10 @@ fn wcd_on(
     Ok(wcd_report(alloc, &domain.actions, found, &witness)?)
 }
 
-/// The command's report over a world that was read.
+/// The report that answers the question about a world that was read.
 fn report_on(
     alloc: Global,
-    command: Command,
+    question: Question,
     states: u32,
     domain: &Domain,
     problem: &Problem,
@@ -117,7 +118,7 @@ fn report_on(
     requires few_actions { length domain.now.actions ≤ 2 ^ 21 }
     requires few_goals { length goals.now ≤ 32 }
     ensures report { IfOk result
-        (λ text. IsReportOn command domain.now problem.now goals.now (string_bytes text)) }
+        (λ text. IsReportOn question domain.now problem.now goals.now (string_bytes text)) }
     ensures cause { IfErr result (HasAnswerCause states domain.now problem.now goals.now) }
 {
     let task = task_of(alloc, domain, problem, goals)?;
@@ -125,20 +126,69 @@ fn report_on(
         Ok(found) => found,
         Err(fault) => return Err(search_status(fault, states)),
     };
-    match command {
-        Command::Cost => Ok(cost_report(alloc, &domain.actions, &found)?),
-        Command::Wcd => wcd_on(alloc, &task, states, domain, &found),
+    match question {
+        Question::Costs => Ok(cost_report(alloc, &domain.actions, &found)?),
+        Question::Wcd => wcd_on(alloc, &task, states, domain, &found),
     }
 }
 
-/// The report for which the words ask, or why there is none.
+/// The report that answers the question about the files of a job.
+fn report_text<F: Shelf>(
+    alloc: Global,
+    shelf: &mut F,
+    question: Question,
+    job: &Job,
+) -> Result<Vec<u8>, Status>
+    requires { 1 ≤ job.now.limits.states }
+    ensures text { IfOk result
+        (λ text. IsReportText question (F.told shelf.old) job.now text.items) }
+    ensures taken { OnOk result ((d : PlainDomain) × (p : PlainProblem) × (goals : List (List (List ℕ)))
+        × TakesFiles (F.told shelf.old) job.now d p goals) }
+    ensures cause { IfErr result
+        (HasFilesCause (F.told shelf.old) (F.faults shelf.old) (F.faults shelf.new) job.now) }
+    ensures files_stay { (x : List ℕ) → F.told shelf.new x ≡ F.told shelf.old x }
+    ensures later { (x : List ℕ) (w : Bool) → F.faults shelf.old x w ≤ F.faults shelf.new x w }
+    ensures quiet { OnOk result (IsQuiet (F.faults shelf.old) (F.faults shelf.new)) }
+{
+    let inputs = read_inputs(alloc, shelf, job)?;
+    let report = report_on(
+        alloc,
+        question,
+        job.limits.states,
+        &inputs.domain,
+        &inputs.problem,
+        &inputs.goals,
+    )?;
+    Ok(report.into_bytes())
+}
+
+/// What the command of a job prints.
+fn text_of_job<F: Shelf>(alloc: Global, shelf: &mut F, job: &Job) -> Result<Vec<u8>, Status>
+    requires { 1 ≤ job.now.limits.states }
+    ensures text { IfOk result
+        (λ text. IsTextOf job.now.command (F.told shelf.old) job.now text.items) }
+    ensures taken { OnOk result (HasTaken job.now.command (F.told shelf.old) job.now) }
+    ensures cause { IfErr result
+        (HasCommandCause job.now.command (F.told shelf.old) (F.faults shelf.old) (F.faults shelf.new) job.now) }
+    ensures files_stay { (x : List ℕ) → F.told shelf.new x ≡ F.told shelf.old x }
+    ensures later { (x : List ℕ) (w : Bool) → F.faults shelf.old x w ≤ F.faults shelf.new x w }
+    ensures quiet { OnOk result (IsQuiet (F.faults shelf.old) (F.faults shelf.new)) }
+{
+    match job.command {
+        Command::Cost => report_text(alloc, shelf, Question::Costs, job),
+        Command::Wcd => report_text(alloc, shelf, Question::Wcd, job),
+        Command::Show => show_text(alloc, shelf, job),
+    }
+}
+
+/// What the command for which the words ask prints, or why it prints nothing.
 pub(crate) fn answer<F: Shelf>(
     alloc: Global,
     words: &[String],
     shelf: &mut F,
-) -> Result<String, Status>
-    ensures report { IfOk result
-        (λ text. IsAnswerText (F.told shelf.old) (map string_bytes words.now) (string_bytes text)) }
+) -> Result<Vec<u8>, Status>
+    ensures text { IfOk result
+        (λ text. IsAnswerText (F.told shelf.old) (map string_bytes words.now) text.items) }
     ensures passed { OnOk result
         (HasPassed (F.told shelf.old) (F.faults shelf.old) (F.faults shelf.new)
         (map string_bytes words.now)) }
@@ -149,13 +199,5 @@ pub(crate) fn answer<F: Shelf>(
     ensures later { (x : List ℕ) (w : Bool) → F.faults shelf.old x w ≤ F.faults shelf.new x w }
 {
     let job = job_of(alloc, words)?;
-    let inputs = read_inputs(alloc, shelf, &job)?;
-    report_on(
-        alloc,
-        job.command,
-        job.limits.states,
-        &inputs.domain,
-        &inputs.problem,
-        &inputs.goals,
-    )
+    text_of_job(alloc, shelf, &job)
 }

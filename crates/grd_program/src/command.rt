@@ -5,6 +5,8 @@ pub enum Command {
     Cost,
     /// Prints the costs, and how long two goals can't be told apart.
     Wcd,
+    /// Prints the domain and the problem in their canonical text.
+    Show,
 }
 
 /// An option of a command, each with one value.
@@ -17,7 +19,7 @@ pub enum OptionName {
 }
 
 /// All commands.
-const COMMANDS: [Command; 2] = [Command::Cost, Command::Wcd];
+const COMMANDS: [Command; 3] = [Command::Cost, Command::Wcd, Command::Show];
 
 impl Command {
     ghost use Rattle.std.specs.Prelude.{◌≡◌, ◌≢◌, MatchOption};
@@ -41,6 +43,7 @@ impl Command {
         match self {
             Command::Cost => "cost",
             Command::Wcd => "wcd",
+            Command::Show => "show",
         }
     }
 
@@ -52,6 +55,7 @@ impl Command {
             Command::Cost | Command::Wcd => {
                 &[OptionName::Domain, OptionName::Problem, OptionName::Goals]
             }
+            Command::Show => &[OptionName::Domain, OptionName::Problem],
         }
     }
 
@@ -61,6 +65,7 @@ impl Command {
     {
         match self {
             Command::Cost | Command::Wcd => &[OptionName::MaxStates],
+            Command::Show => &[],
         }
     }
 }

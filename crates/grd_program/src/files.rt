@@ -2,8 +2,10 @@ ghost use Rattle.std.specs.Prelude.{◌≡◌, ℕ, ◌^◌, ◌≤◌, List, le
 ghost use Rattle.pddl_reader.specs.Spelling.{IsDomainText, IsProblemText};
 ghost use Rattle.grd_io.specs.Bytes.{IsWholeFile};
 ghost use Rattle.grd_program.specs.Causes.{HasText, HasReadCause, HasDomainCause, HasProblemCause, HasGoalsCause, SpellsOnlyGoals, IsQuiet};
-ghost use Rattle.grd_program.specs.Runs.{SpellsOnly};
+ghost use Rattle.grd_program.specs.Runs.{SpellsOnly, TakesTexts, HasTextsCause};
+ghost use Rattle.pddl_print.specs.Spells.{IsSpelledDomain, IsSpelledProblem};
 
+use crate::job::Job;
 use crate::status::{Refusal, Status};
 use goal_files::{Goal, GoalFault, read_goals};
 use grd_base::FileRole;
@@ -53,13 +55,34 @@ fn pddl_status(role: FileRole, fault: PddlFault) -> Status
     }
 }
 
+/// What the first two files of a job spell.
+#[derive(Drop)]
+pub(crate) struct Texts {
+    pub(crate) domain: Domain,
+    pub(crate) problem: Problem,
+}
+
+/// Reads the domain and then the problem.
+pub(crate) fn read_texts<F: Shelf>(alloc: Global, shelf: &mut F, job: &Job) -> Result<Texts, Status>
+    ensures taken { IfOk result (λ t. TakesTexts (F.told shelf.old) job.now t.domain t.problem) }
+    ensures is_domain { IfOk result (λ t. IsSpelledDomain t.domain) }
+    ensures is_problem { IfOk result (λ t. IsSpelledProblem t.problem) }
+    ensures few_actions { IfOk result (λ t. length t.domain.actions ≤ 2 ^ 21) }
+    ensures cause { IfErr result
+        (HasTextsCause (F.told shelf.old) (F.faults shelf.old) (F.faults shelf.new) job.now) }
+    ensures files_stay { (x : List ℕ) → F.told shelf.new x ≡ F.told shelf.old x }
+    ensures later { (x : List ℕ) (w : Bool) → F.faults shelf.old x w ≤ F.faults shelf.new x w }
+    ensures quiet { OnOk result (IsQuiet (F.faults shelf.old) (F.faults shelf.new)) }
+{
+    let domain = domain_of(alloc, shelf, &job.domain)?;
+    let problem = problem_of(alloc, shelf, &job.problem)?;
+    Ok(Texts { domain, problem })
+}
+
 /// The domain that a file spells.
-pub(crate) fn domain_of<F: Shelf>(
-    alloc: Global,
-    shelf: &mut F,
-    name: &str,
-) -> Result<Domain, Status>
+fn domain_of<F: Shelf>(alloc: Global, shelf: &mut F, name: &str) -> Result<Domain, Status>
     ensures spelled { IfOk result (λ d. HasText (F.told shelf.old name.now) (SpellsOnly IsDomainText d)) }
+    ensures is_spelled { IfOk result IsSpelledDomain }
     ensures few_actions { IfOk result (λ d. length d.actions ≤ 2 ^ 21) }
     ensures cause { IfErr result
         (HasDomainCause (F.told shelf.old name.now) (F.faults shelf.old) (F.faults shelf.new) name.now) }
@@ -75,12 +98,9 @@ pub(crate) fn domain_of<F: Shelf>(
 }
 
 /// The problem that a file spells.
-pub(crate) fn problem_of<F: Shelf>(
-    alloc: Global,
-    shelf: &mut F,
-    name: &str,
-) -> Result<Problem, Status>
+fn problem_of<F: Shelf>(alloc: Global, shelf: &mut F, name: &str) -> Result<Problem, Status>
     ensures spelled { IfOk result (λ p. HasText (F.told shelf.old name.now) (SpellsOnly IsProblemText p)) }
+    ensures is_spelled { IfOk result IsSpelledProblem }
     ensures cause { IfErr result
         (HasProblemCause (F.told shelf.old name.now) (F.faults shelf.old) (F.faults shelf.new) name.now) }
     ensures files_stay { (x : List ℕ) → F.told shelf.new x ≡ F.told shelf.old x }

@@ -10,7 +10,7 @@ pub struct Job {
     pub domain: String,
     /// The name of the problem's file.
     pub problem: String,
-    /// The name of the goals' file.
+    /// The name of the goals' file. It is empty where the command reads none.
     pub goals: String,
     pub limits: Limits,
 }

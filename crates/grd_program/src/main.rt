@@ -10,6 +10,7 @@ mod job;
 mod names;
 mod report;
 mod run;
+mod show;
 mod status;
 #[cfg(test)]
 mod tests;

@@ -25,6 +25,7 @@ impl Model for Names {
 }
 
 impl Names {
+    /// No names.
     pub(crate) fn new(alloc: Global) -> Names
         ensures { result ≡ [] }
     {
@@ -56,6 +57,7 @@ impl Names {
         Ok(())
     }
 
+    /// Whether the name was inserted.
     pub(crate) fn contains(&self, name: &str) -> bool
         ensures test { result ≡ has_atom bytes_eq self.now name.now }
         ensures member { IsTrue result ↔ Contains self.now name.now }
@@ -63,6 +65,7 @@ impl Names {
         self.names.contains(name)
     }
 
+    /// Whether all of the names were inserted.
     pub(crate) fn contains_all(&self, names: &[&str]) -> bool
         ensures { IsTrue result ↔ All (Contains self.now) (texts_of names.now) }
     {
@@ -81,6 +84,7 @@ impl Names {
         Some(place as u32)
     }
 
+    /// How many names there are.
     pub(crate) fn len(&self) -> usize
         ensures { result ≡ length self.now }
     {

@@ -10,6 +10,15 @@ use std::alloc::Global;
 use std::fmt::Write;
 use strips_model::Witness;
 
+/// What is asked about a world.
+#[derive(Clone, Copy, Debug, PartialEq, Eq)]
+pub(crate) enum Question {
+    /// The cost of each goal, with an optimal plan.
+    Costs,
+    /// The costs, and how long two goals can't be told apart.
+    Wcd,
+}
+
 /// The report of what was found for each goal: an optimal plan, or that there is no plan. The
 /// actions give the names.
 pub(crate) fn cost_report(

@@ -9,8 +9,8 @@ use grd_base::OutOfMemory;
 use grd_io::{Shelf, Sink, write_whole};
 use std::alloc::Global;
 
-/// All that the program does: reads the words, then the files that they name, and writes the report
-/// to `out` or one line to `err`.
+/// All that the program does: reads the words, then the files that they name, and writes the
+/// text for which they ask to `out`, or one line to `err`.
 pub fn run<F: Shelf, O: Sink, E: Sink>(
     alloc: Global,
     words: &[String],
@@ -32,7 +32,7 @@ pub fn run<F: Shelf, O: Sink, E: Sink>(
     warn(alloc, status, err)
 }
 
-/// Makes the whole report, and then writes it.
+/// Makes the whole text, and then writes it.
 fn print_answer<F: Shelf, O: Sink>(
     alloc: Global,
     words: &[String],
@@ -46,11 +46,11 @@ fn print_answer<F: Shelf, O: Sink>(
     ensures plain { IsPlainStatus result }
     ensures files_stay { (x : List ℕ) → F.told shelf.new x ≡ F.told shelf.old x }
 {
-    let report = match answer(alloc, words, shelf) {
-        Ok(report) => report,
+    let text = match answer(alloc, words, shelf) {
+        Ok(text) => text,
         Err(status) => return status,
     };
-    match write_whole(out, report.as_bytes()) {
+    match write_whole(out, &text) {
         Ok(()) => Status::Done,
         Err(_) => Status::WriteFailed(Target::Output),
     }

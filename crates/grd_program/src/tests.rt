@@ -102,6 +102,8 @@ const COST: &str = "cost --domain d --problem p --goals g";
 
 const WCD: &str = "wcd --domain d --problem p --goals g";
 
+const SHOW: &str = "show --domain d --problem p";
+
 const FORK: &str = "(define (domain fork)
 (:predicates (at0) (at1) (at2) (atl) (atr))
 (:action a :parameters () :precondition (at0) :effect (and (at1) (not (at0))))
@@ -272,6 +274,69 @@ fn goals_are_at_most_32(rt: HostRuntime) -> Result<(), Fail> {
     Ok(())
 }
 
+/// Types, constants, parameters of two types, and names in upper case.
+const ROOMS: &str = "(DEFINE (domain Rooms) (:requirements :typing) ; two kinds of places
+(:constants Lobby - hall) (:types room hall - place thing)
+(:action Move :parameters (?x - thing ?from ?to - place)
+:effect (and (not (at ?x ?from)) (and (at ?x ?to) (at ?x LOBBY))) :precondition (at ?x ?from))
+(:predicates (at ?x - (either thing robot) ?p - place) (free)))";
+
+const ROOMS_SHOWN: &str = "(define (domain rooms)
+(:requirements :strips :typing)
+(:types room - place hall - place thing - object)
+(:constants lobby - hall)
+(:predicates (at ?x - (either thing robot) ?p - place) (free))
+(:action move
+:parameters (?x - thing ?from - place ?to - place)
+:precondition (and (at ?x ?from))
+:effect (and (not (at ?x ?from)) (at ?x ?to) (at ?x lobby)))
+)
+";
+
+const ROOMS_START: &str = "(define (problem P1) (:init (at a lobby) (free) (free)) (:goal (at a r))
+(:objects a - thing B r - room) (:domain rooms))";
+
+const ROOMS_START_SHOWN: &str = "(define (problem p1)
+(:domain rooms)
+(:objects a - thing b - room r - room)
+(:init (at a lobby) (free) (free))
+(:goal (and)))
+";
+
+/// The example whose texts are the shortest that are not canonical.
+const SHORT: &str =
+    "(DEFINE (domain K) (:predicates (p) (q)) (:action T :precondition (p) :effect (and (q) (not (p)) (p)))) ; end";
+
+const SHORT_START: &str = "(define (problem z) (:domain k) (:init (P)))";
+
+const SHORT_SHOWN: &str = "(define (domain k)
+(:requirements :strips :typing)
+(:predicates (p) (q))
+(:action t
+:parameters ()
+:precondition (and (p))
+:effect (and (q) (not (p)) (p)))
+)
+(define (problem z)
+(:domain k)
+(:init (p))
+(:goal (and)))
+";
+
+#[test]
+fn canonical_texts_are_printed(rt: HostRuntime) -> Result<(), Fail> {
+    let rooms = format!(in rt.alloc(); "{ROOMS_SHOWN}{ROOMS_START_SHOWN}")?;
+    for (domain, problem, shown) in [
+        (SHORT, SHORT_START, SHORT_SHOWN),
+        (ROOMS, ROOMS_START, rooms.as_str()),
+        (ROOMS_SHOWN, ROOMS_START_SHOWN, rooms.as_str()),
+    ] {
+        let outcome = run_on_faults(rt.alloc(), SHOW, domain, problem)?;
+        expect(&rt, domain, &outcome, 0, shown, "");
+    }
+    Ok(())
+}
+
 #[test]
 fn first_fault_of_the_words_is_told(rt: HostRuntime) -> Result<(), Fail> {
     for (words, fault) in [
@@ -305,6 +370,8 @@ fn first_fault_of_the_words_is_told(rt: HostRuntime) -> Result<(), Fail> {
         ("wcd", "missing --domain"),
         ("cost --domain d", "missing --problem"),
         ("cost --goals g --domain=d", "missing --problem"),
+        ("show --domain d", "missing --problem"),
+        ("show --domain d --goals g", "word 4"),
         (
             "wcd --problem p --max-states 0 --domain d",
             "missing --goals",
@@ -402,14 +469,14 @@ fn padded(alloc: Global, text: &str, filler: char, bytes: usize) -> Result<Strin
     Ok(padded)
 }
 
-/// Runs `cost` over these files and a goals file that is at fault.
-fn run_on_faults(alloc: Global, domain: &str, problem: &str) -> Result<Outcome, Fail> {
+/// Runs words over these files and a goals file that is at fault.
+fn run_on_faults(alloc: Global, words: &str, domain: &str, problem: &str) -> Result<Outcome, Fail> {
     let texts = Texts {
         domain,
         problem,
         goals: "",
     };
-    run_on(alloc, COST, texts, NO_FAILURE)
+    run_on(alloc, words, texts, NO_FAILURE)
 }
 
 const TYPED: &str = "(define (domain fork) (:types t) (:predicates (atl)))";
@@ -451,8 +518,10 @@ fn faulty_files_are_told_by_their_places(rt: HostRuntime) -> Result<(), Fail> {
             "grd: problem: byte 43: doubled section\n",
         ),
     ] {
-        let outcome = run_on_faults(rt.alloc(), domain, problem)?;
-        expect(&rt, line, &outcome, 1, "", line);
+        for words in [COST, SHOW] {
+            let outcome = run_on_faults(rt.alloc(), words, domain, problem)?;
+            expect(&rt, line, &outcome, 1, "", line);
+        }
     }
     Ok(())
 }
@@ -511,7 +580,7 @@ fn first_file_that_is_not_yet_read_is_told(rt: HostRuntime) -> Result<(), Fail> 
         ),
     ] {
         let line = format!(in rt.alloc(); "grd: {file}: not yet read\n")?;
-        let outcome = run_on_faults(rt.alloc(), domain, problem)?;
+        let outcome = run_on_faults(rt.alloc(), COST, domain, problem)?;
         expect(&rt, domain, &outcome, 1, "", line.as_str());
     }
     Ok(())
@@ -528,6 +597,8 @@ fn files_have_at_most_2_to_the_20_bytes(rt: HostRuntime) -> Result<(), Fail> {
     };
     let outcome = run_on(rt.alloc(), COST, longest, NO_FAILURE)?;
     expect(&rt, COST, &outcome, 0, "goals 1\ngoal 1 cost 1 (a)\n", "");
+    let outcome = run_on(rt.alloc(), SHOW, longest, NO_FAILURE)?;
+    assert_eq!(rt; outcome.status, Status::Done);
 
     let goals = padded(rt.alloc(), "(at1)", ' ', (1 << 20) + 1)?;
     let outcome = run_on(rt.alloc(), COST, fork(goals.as_str()), NO_FAILURE)?;
@@ -540,9 +611,11 @@ fn files_have_at_most_2_to_the_20_bytes(rt: HostRuntime) -> Result<(), Fail> {
         problem: FORK_START,
         goals: goals.as_str(),
     };
-    let outcome = run_on(rt.alloc(), COST, longer, NO_FAILURE)?;
     let line = "grd: domain: longer than 1048576 bytes\n";
-    expect(&rt, COST, &outcome, 1, "", line);
+    for words in [COST, SHOW] {
+        let outcome = run_on(rt.alloc(), words, longer, NO_FAILURE)?;
+        expect(&rt, words, &outcome, 1, "", line);
+    }
     Ok(())
 }
 

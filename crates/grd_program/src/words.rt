@@ -1,5 +1,5 @@
 ghost use Rattle.std.specs.Prelude.{◌≡◌, ◌≢◌, ◌⊎◌, ◌<◌, ◌^◌, ◌↔◌, ℕ, List, [], ◌∷◌, ◌++◌, map, string_bytes, All, Contains, IsTrue, IfOk, MatchOption, MatchResult};
-ghost use Rattle.grd_program.specs.Commands.{PlainJob, Reads, IsUsageFault, flag_of, required_of, options_of, command_text, IsValue, IsNumber, AreItemsOf, IsGiven, NotGiven, Gives, IsFirstWith, GivesNoNumber};
+ghost use Rattle.grd_program.specs.Commands.{PlainJob, Reads, IsUsageFault, flag_of, required_of, options_of, command_text, IsValue, IsNumber, AreItemsOf, IsGiven, NotGiven, Gives, GivesText, IsFirstWith, GivesNoNumber};
 ghost use Rattle.grd_program.specs.Words.{items_of, usage_fault_of, HasNoRepeats, HasNoEquals, IsFront, IsFrontFault, with_number_of, ReadsLimits, IsJob};
 
 use crate::command::{Command, OptionName};
@@ -110,19 +110,18 @@ fn read_job(alloc: Global, command: Command, words: &[String]) -> Result<Job, Wo
     }
 }
 
-/// The job for which the items of a command ask.
+/// The job for which the items of a command ask. What the command does not have is empty.
 fn job_of(
     alloc: Global,
     command: Command,
     items: &[Item],
     limits: Limits,
 ) -> Result<Job, AllocError>
-    requires { All (IsGiven (items_of items.now)) (required_of command) }
     ensures { IfOk result (IsJob command (items_of items.now) limits) }
 {
-    let domain = required_value(items, OptionName::Domain);
-    let problem = required_value(items, OptionName::Problem);
-    let goals = required_value(items, OptionName::Goals);
+    let domain = text_given(items, OptionName::Domain);
+    let problem = text_given(items, OptionName::Problem);
+    let goals = text_given(items, OptionName::Goals);
     Ok(Job {
         command,
         domain: String::from_str(alloc, domain)?,
@@ -279,11 +278,11 @@ fn value_of<'a>(items: &[Item<'a>], name: OptionName) -> Option<&'a str>
     None
 }
 
-fn required_value<'a>(items: &[Item<'a>], name: OptionName) -> &'a str
-    requires { IsGiven (items_of items.now) name }
-    ensures { Gives (items_of items.now) name result.now }
+/// What the option is given, or an empty text.
+fn text_given<'a>(items: &[Item<'a>], name: OptionName) -> &'a str
+    ensures { GivesText (items_of items.now) name result.now }
 {
-    value_of(items, name).unwrap()
+    value_of(items, name).unwrap_or("")
 }
 
 /// The first of the names that is not given.

@@ -47,6 +47,7 @@ struct Atoms {
 }
 
 impl Atoms {
+    /// The fluent names of the domain, and the names at the start.
     fn new(alloc: Global, domain: &Domain, start: &[&str]) -> Result<Atoms, OutOfMemory>
         requires { IsFirstForm domain.now }
         ensures fluents { IfOk result (λ atoms. atoms.fluents ≡ fluents_of domain.now) }
@@ -82,6 +83,7 @@ impl Atoms {
         names.iter().any(|name| !self.fluents.contains(name) && !self.initial.contains(name))
     }
 
+    /// The actions of the schemas, in their order.
     fn actions_of(&self, alloc: Global, schemas: &[Schema]) -> Result<Vec<Action>, OutOfMemory>
         ensures { IfOk result (λ actions. actions.items
             ≡ map (action_of bytes_eq (world_with self.now.fluents self.now.initial)) (map instance_of schemas.now)) }
@@ -93,6 +95,7 @@ impl Atoms {
         Ok(actions)
     }
 
+    /// The action of a schema, which has no parameters.
     fn action_of(&self, alloc: Global, schema: &Schema) -> Result<Action, OutOfMemory>
         ensures { IfOk result (λ action. action
             ≡ action_of bytes_eq (world_with self.now.fluents self.now.initial) (instance_of schema.now)) }
@@ -108,6 +111,7 @@ impl Atoms {
         })
     }
 
+    /// The conditions of the goals, in their order.
     fn goals_of(&self, alloc: Global, goals: &[Goal]) -> Result<Vec<Condition>, OutOfMemory>
         ensures { IfOk result (λ conditions. conditions.items
             ≡ map (goal_of bytes_eq (world_with self.now.fluents self.now.initial)) goals.now) }
@@ -119,6 +123,7 @@ impl Atoms {
         Ok(conditions)
     }
 
+    /// The condition of a goal.
     fn goal_of(&self, alloc: Global, goal: &Goal) -> Result<Condition, OutOfMemory>
         ensures { IfOk result (λ condition. condition
             ≡ goal_of bytes_eq (world_with self.now.fluents self.now.initial) goal.now) }

@@ -1,10 +1,10 @@
-use Rattle.std.proofs.Common.{sym, subst}
+use Rattle.std.proofs.Common.{subst}
 use Rattle.grd_base.specs.declared.roles.FileRole.TheVariants.{Domain}
 use Rattle.pddl_reader.specs.Spelling.{IsDomainText}
 use Rattle.pddl_reader.specs.Faults.{IsDomainFault}
 use Rattle.grd_program.specs.Causes.{HasDomainCause, FailsDomain}
 use Rattle.grd_program.specs.Runs.{SpellsOnly}
-use Rattle.grd_program.proofs.FileLemmas.{has, only_value, no_value, plain_fault, pddl_cause}
+use Rattle.grd_program.proofs.FileLemmas.{has, only_value, only_fault, no_value, plain_fault, pddl_cause}
 use Rattle.grd_program.proofs.files.domain_of.Goals as goal
 
 pub returns-in-Ok-clause-spelled : goal.returns-in-Ok-clause-spelled
@@ -12,6 +12,9 @@ returns-in-Ok-clause-spelled g c =
     has _ c.in_ok-text.text.items (SpellsOnly IsDomainText c.in-Ok.domain) c.in_ok-text.ensures.whole c.in_ok-text.ensures.short
     (subst (SpellsOnly IsDomainText c.in-Ok.domain) c.deref.ensures.value
     (c.in-Ok.ensures.spelled, only_value (IsDomainText c.deref.result.now) c.read_domain.result c.read_domain.ensures.exactly c.in-Ok.domain c.in-Ok.is))
+
+pub returns-in-Ok-clause-is_spelled : goal.returns-in-Ok-clause-is_spelled
+returns-in-Ok-clause-is_spelled g c = record { text = c.deref.result.now; spells = c.in-Ok.ensures.spelled }
 
 pub returns-clause-cause : goal.returns-clause-cause
 returns-clause-cause g c =
@@ -22,8 +25,9 @@ returns-clause-cause g c =
       plain,
       c.in_ok-text.ensures.quiet,
       has _ c.in_ok-text.text.items (FailsDomain fault) c.in_ok-text.ensures.whole c.in_ok-text.ensures.short
-          (subst (FailsDomain fault) c.deref.ensures.value (
-            plain_fault (IsDomainFault c.deref.result.now) fault (c.read_domain.ensures.fault fault c.in-Err.is) plain,
-            no_value (IsDomainText c.deref.result.now) c.read_domain.result c.read_domain.ensures.exactly fault c.in-Err.is plain,
-          )),
+          (subst (FailsDomain fault) c.deref.ensures.value (record {
+            has = plain_fault (IsDomainFault c.deref.result.now) fault (c.read_domain.ensures.fault fault c.in-Err.is) plain;
+            only = only_fault (IsDomainFault c.deref.result.now) c.read_domain.result c.read_domain.ensures.fault_exactly fault c.in-Err.is plain;
+            no_domain = no_value (IsDomainText c.deref.result.now) c.read_domain.result c.read_domain.ensures.exactly fault c.in-Err.is plain;
+          })),
     ))

@@ -1,10 +1,10 @@
-use Rattle.std.proofs.Common.{sym, subst}
+use Rattle.std.proofs.Common.{subst}
 use Rattle.grd_base.specs.declared.roles.FileRole.TheVariants.{Problem}
 use Rattle.pddl_reader.specs.Spelling.{IsProblemText}
 use Rattle.pddl_reader.specs.Faults.{IsProblemFault}
 use Rattle.grd_program.specs.Causes.{HasProblemCause, FailsProblem}
 use Rattle.grd_program.specs.Runs.{SpellsOnly}
-use Rattle.grd_program.proofs.FileLemmas.{has, only_value, no_value, plain_fault, pddl_cause}
+use Rattle.grd_program.proofs.FileLemmas.{has, only_value, only_fault, no_value, plain_fault, pddl_cause}
 use Rattle.grd_program.proofs.files.problem_of.Goals as goal
 
 pub returns-in-Ok-clause-spelled : goal.returns-in-Ok-clause-spelled
@@ -12,6 +12,9 @@ returns-in-Ok-clause-spelled g c =
     has _ c.in_ok-text.text.items (SpellsOnly IsProblemText c.in-Ok.problem) c.in_ok-text.ensures.whole c.in_ok-text.ensures.short
     (subst (SpellsOnly IsProblemText c.in-Ok.problem) c.deref.ensures.value
     (c.in-Ok.ensures.spelled, only_value (IsProblemText c.deref.result.now) c.read_problem.result c.read_problem.ensures.exactly c.in-Ok.problem c.in-Ok.is))
+
+pub returns-in-Ok-clause-is_spelled : goal.returns-in-Ok-clause-is_spelled
+returns-in-Ok-clause-is_spelled g c = record { text = c.deref.result.now; spells = c.in-Ok.ensures.spelled }
 
 pub returns-clause-cause : goal.returns-clause-cause
 returns-clause-cause g c =
@@ -22,8 +25,9 @@ returns-clause-cause g c =
       plain,
       c.in_ok-text.ensures.quiet,
       has _ c.in_ok-text.text.items (FailsProblem fault) c.in_ok-text.ensures.whole c.in_ok-text.ensures.short
-          (subst (FailsProblem fault) c.deref.ensures.value (
-            plain_fault (IsProblemFault c.deref.result.now) fault (c.read_problem.ensures.fault fault c.in-Err.is) plain,
-            no_value (IsProblemText c.deref.result.now) c.read_problem.result c.read_problem.ensures.exactly fault c.in-Err.is plain,
-          )),
+          (subst (FailsProblem fault) c.deref.ensures.value (record {
+            has = plain_fault (IsProblemFault c.deref.result.now) fault (c.read_problem.ensures.fault fault c.in-Err.is) plain;
+            only = only_fault (IsProblemFault c.deref.result.now) c.read_problem.result c.read_problem.ensures.fault_exactly fault c.in-Err.is plain;
+            no_problem = no_value (IsProblemText c.deref.result.now) c.read_problem.result c.read_problem.ensures.exactly fault c.in-Err.is plain;
+          })),
     ))

@@ -1,4 +1,4 @@
-use Rattle.std.proofs.Common.{◌≡◌, sym, ◌∙◌, refl, subst, ◌∷◌, map, List, ℕ, string_bytes}
+use Rattle.std.proofs.Common.{◌≡◌, refl, subst, ◌∷◌, map, List, ℕ, string_bytes}
 use Rattle.std.specs.List.{All}
 use Rattle.grd_program.specs.declared.words.TheConstants.{DEFAULT_LIMITS}
 use Rattle.grd_program.specs.declared.status.UsageFault.TheVariants.{BadNumber}
@@ -7,17 +7,14 @@ use Rattle.grd_program.specs.Words.{items_of, ReadsLimits, IsJob}
 use Rattle.grd_program.proofs.WordsGiven.{job_read}
 use Rattle.grd_program.proofs.words.read_job.Goals as goal
 
-pub job_of-requires : goal.job_of-requires
-job_of-requires c =
-    subst (λ is. All (IsGiven (items_of is)) (required_of c.args.command)) (c.deref.ensures.value ∙ sym c.deref-in-Ok.ensures.value)
-    (subst (All (IsGiven (items_of c.deref.result.now))) c.required.ensures c.in_default.ensures)
-
 pub returns-in-Ok-clause-read : goal.returns-in-Ok-clause-read
 returns-in-Ok-clause-read c =
     let words : List (List ℕ) = map string_bytes c.args.words.now in
     let read = subst (λ is. ReadsLimits (options_of c.args.command) (items_of is) DEFAULT_LIMITS c.in-Ok.limits) c.deref-2.ensures.value c.in-Ok.ensures in
     let job = subst (λ is. IsJob c.args.command (items_of is) c.in-Ok.limits c.in_ok-job_of-in-Ok.field-0) c.deref-in-Ok.ensures.value c.in_ok-job_of-in-Ok.ensures in
-    job_read c.args.command words (items_of c.in_ok-items.items.items) c.in-Ok.limits c.in_ok-job_of-in-Ok.field-0 c.in_ok-items.ensures.items read job
+    let given = subst (λ is. All (IsGiven (items_of is)) (required_of c.args.command)) c.deref.ensures.value
+    (subst (All (IsGiven (items_of c.deref.result.now))) c.required.ensures c.in_default.ensures) in
+    job_read c.args.command words (items_of c.in_ok-items.items.items) c.in-Ok.limits c.in_ok-job_of-in-Ok.field-0 c.in_ok-items.ensures.items given read job
 
 pub returns-clause-fault : goal.returns-clause-fault
 returns-clause-fault c f e =
