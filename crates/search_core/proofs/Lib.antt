@@ -1,0 +1,10 @@
+mod PlaceLemmas
+mod LookupLemmas
+mod WalkLemmas
+mod WayLemmas
+mod KeptLemmas
+mod PushLemmas
+mod VisitLemmas
+mod NumberLemmas
+mod TableLemmas
+mod AnswerLemmas

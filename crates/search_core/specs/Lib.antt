@@ -1,0 +1,6 @@
+pub mod Spaces
+pub mod Tables
+pub mod Answers
+pub mod Progress
+pub mod Visits
+pub mod TestFloors

@@ -1,0 +1,160 @@
+ghost use Rattle.std.specs.Prelude.{◌≡◌, map, IfOk};
+ghost use Rattle.std.specs.List.{filter_map, list_any};
+ghost use Rattle.search_core.specs.Answers.{IsTrueAnswer, HasStartRow, HasReason, rows_of};
+ghost use Rattle.search_core.specs.Spaces.{Counts, MoreThan};
+ghost use Rattle.search_core.specs.Tables.{AreRefuted, AreCounted};
+ghost use Rattle.search_core.specs.Visits.{IsExplored, IsAnswered, AreTooMany, row_within, row_never, is_number, has_number_mark};
+
+use crate::faults::SearchFault;
+use crate::found::{Found, Progress};
+use crate::rows::{KeptRow, WithinAnswer};
+use crate::space::{Floor, Space};
+use crate::visits::{Question, begin, explore};
+use grd_base::{Bound, OutOfMemory};
+use indexmap::IndexMap;
+use std::alloc::Global;
+use std::hash::Hash;
+
+/// Whether a mark is kept that shows a number.
+fn shows_number<M>(found: &Found<M>) -> bool
+    ensures { result ≡ is_number found.now.bound found.now.mark }
+{
+    match found.bound {
+        Bound::Steps(_) => found.mark.is_some(),
+        Bound::Never => false,
+    }
+}
+
+/// Whether some state has a mark that shows a number.
+fn some_number<T: Eq + Hash, M>(found: &IndexMap<T, Found<M>>) -> bool
+    ensures { result ≡ list_any has_number_mark found.now.entries }
+{
+    found.iter().any(|(_, found)| shows_number(found))
+}
+
+/// The row for r steps, of a state at most r deep.
+fn row_at<T: Copy, M: Drop>(entry: (T, Found<M>), r: u32) -> Option<KeptRow<T, M>>
+    ensures { result ≡ row_within r entry }
+{
+    let (state, found) = entry;
+    if found.way.depth > r {
+        return None;
+    }
+    Some(KeptRow {
+        state,
+        bound: Bound::Steps(r - found.way.depth),
+        mark: found.mark,
+    })
+}
+
+/// The rows for r steps.
+fn rows_within<T: Copy + Eq + Hash, M: Drop>(
+    alloc: Global,
+    found: IndexMap<T, Found<M>>,
+    r: u32,
+) -> Result<Vec<KeptRow<T, M>>, OutOfMemory>
+    ensures { IfOk result (λ rows. rows.items ≡ filter_map (row_within r) found.entries) }
+{
+    let mut rows = Vec::with_capacity(alloc, found.len())?;
+    for entry in found {
+        if let Some(row) = row_at(entry, r) {
+            rows.push(row)?;
+        }
+    }
+    Ok(rows)
+}
+
+/// The row of a state for any number of steps.
+fn never_row<T: Copy, M: Drop>(entry: (T, Found<M>)) -> KeptRow<T, M>
+    ensures { result ≡ row_never entry }
+{
+    let (state, found) = entry;
+    KeptRow {
+        state,
+        bound: Bound::Never,
+        mark: found.mark,
+    }
+}
+
+/// The rows for any number of steps.
+fn rows_never<T: Copy + Eq + Hash, M: Drop>(
+    alloc: Global,
+    found: IndexMap<T, Found<M>>,
+) -> Result<Vec<KeptRow<T, M>>, OutOfMemory>
+    ensures { IfOk result (λ rows. rows.items ≡ map row_never found.entries) }
+{
+    let mut rows = Vec::with_capacity(alloc, found.len())?;
+    for entry in found {
+        rows.push(never_row(entry))?;
+    }
+    Ok(rows)
+}
+
+/// The answer by the states that were found, where no path was.
+fn refute<S: Space, F: Floor<S>>(
+    alloc: Global,
+    question: &Question<S, F, S::State>,
+    progress: Progress<S::State, F::Mark>,
+) -> Result<WithinAnswer<S::State, F::Mark>, OutOfMemory>
+    requires { IsExplored S.next S.is_done S.level F.shows question.now progress }
+    ensures { IfOk result (IsAnswered S.next S.is_done S.level F.shows question.now) }
+{
+    if some_number(&progress.found) {
+        let rows = rows_within(alloc, progress.found, question.r)?;
+        return Ok(WithinAnswer::No(rows));
+    }
+    let rows = rows_never(alloc, progress.found)?;
+    Ok(WithinAnswer::Never(rows))
+}
+
+/// The answer to a question.
+fn answer<S: Space, F: Floor<S>>(
+    alloc: Global,
+    question: &Question<S, F, S::State>,
+) -> Result<WithinAnswer<S::State, F::Mark>, SearchFault>
+    ensures answered { IfOk result (IsAnswered S.next S.is_done S.level F.shows question.now) }
+    ensures many { result ≡ Err SearchFault.TooManyStates → AreTooMany S.next S.level question.now }
+{
+    if question.space.done(&question.start) {
+        return Ok(WithinAnswer::Yes(Vec::new(alloc)));
+    }
+    let mut progress = begin(alloc, question)?;
+    if let Some(path) = explore(alloc, question, &mut progress)? {
+        return Ok(WithinAnswer::Yes(path));
+    }
+    let answer = refute(alloc, question, progress)?;
+    Ok(answer)
+}
+
+/// Whether a done state lies within `r` steps of `from`: a path to one, or rows that refute it. At
+/// most `limit` states are expanded.
+pub fn within<S: Space, F: Floor<S>>(
+    alloc: Global,
+    space: &S,
+    floor: &F,
+    from: S::State,
+    r: u32,
+    limit: u32,
+) -> Result<WithinAnswer<S::State, F::Mark>, SearchFault>
+    ensures right { IfOk result
+        (IsTrueAnswer (S.next space.now) (S.is_done space.now) from r limit) }
+    ensures refuted { IfOk result
+        (λ answer. AreRefuted (S.next space.now) (S.is_done space.now)
+        (F.shows floor.now space.now) (rows_of answer)) }
+    ensures start { IfOk result (HasStartRow from r) }
+    ensures counted { IfOk result
+        (λ answer. AreCounted (S.next space.now) (S.level space.now) from r limit (rows_of answer)) }
+    ensures reason { IfOk result
+        (HasReason (S.next space.now) (F.shows floor.now space.now) from r limit) }
+    ensures many { result ≡ Err SearchFault.TooManyStates
+        → MoreThan limit (Counts (S.next space.now) (S.level space.now) from r) }
+{
+    let question = Question {
+        space,
+        floor,
+        start: from,
+        r,
+        limit,
+    };
+    answer(alloc, &question)
+}

@@ -1,0 +1,23 @@
+use grd_base::{ActionId, Bound};
+
+/// A state with a bound on the number of steps from it to a done one. A row with a mark is refuted
+/// by the floor, every other row by the rows of its successors.
+#[derive(Drop)]
+pub struct KeptRow<T, M> {
+    pub state: T,
+    /// No path of at most this many steps leads to a done state; at `Never` no path does.
+    pub bound: Bound,
+    /// What shows a bound above the row's, or `Never` for `Never`.
+    pub mark: Option<M>,
+}
+
+/// Whether a done state lies within the asked number of steps.
+#[derive(Drop)]
+pub enum WithinAnswer<T, M> {
+    /// One does: the actions of a path to it.
+    Yes(Vec<ActionId>),
+    /// None does.
+    No(Vec<KeptRow<T, M>>),
+    /// No number of steps leads to one.
+    Never(Vec<KeptRow<T, M>>),
+}
