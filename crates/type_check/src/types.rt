@@ -1,0 +1,194 @@
+ghost use Rattle.std.specs.Prelude.{◌≡◌, ◌↔◌, ◌∷◌, ◌++◌, [], ℕ, List, IsTrue, All, Any, Contains, IfOk, IfErr, OnOk, IfSome, IfNone};
+ghost use Rattle.grd_base.specs.declared.roles.FileRole.TheVariants.{Domain as OfDomain};
+ghost use Rattle.pddl_reader.specs.Values.{PlainTypedName};
+ghost use Rattle.type_check.specs.Types.{texts, names_of, type_of, type_names, place_in, entries, FitsTypes, LiesUnder, Returns};
+ghost use Rattle.type_check.specs.Checks.{Meets, Acyclic, Passes, fault_at};
+ghost use Rattle.type_check.specs.Rules.{type_checks, checks_of_each};
+ghost use Rattle.type_check.specs.Typing.{IsShortDomain};
+ghost use Rattle.type_check.specs.Tables.{HasFault};
+ghost use Rattle.type_check.specs.Chains.{NoneReturns};
+
+use crate::chains::{all_end, leads_to};
+use crate::entries::{is_entry, numbered, parents_of, type_text};
+use crate::faults::{CheckTypeFault, TypeFault, TypeKind};
+use crate::names::Names;
+use grd_base::{FileRole, OutOfMemory};
+use pddl_reader::{Domain, Name, TypedName};
+use std::alloc::Global;
+use std::marker::Model;
+
+/// The types of a domain by their numbers, each with its parent's.
+#[derive(Drop)]
+pub(crate) struct Types<'a> {
+    domain: &'a Domain,
+    names: Names<'a>,
+    /// For each type its parent's number.
+    parents: Vec<Option<u32>>,
+}
+
+impl<'a> Model for Types<'a> {
+    ghost use Rattle.pddl_reader.specs.Values.{PlainDomain};
+    ghost use Rattle.type_check.specs.Chains.{AreTypes};
+
+    ghost Value = { PlainDomain };
+
+    ghost view = { λ t. t.domain.now };
+
+    ghost invariant = { λ t. AreTypes t.domain.now t.names t.parents.items };
+}
+
+// The fault of a declared type.
+fn fault_of(kind: TypeKind, n: &TypedName) -> CheckTypeFault
+    ensures { result ≡ CheckTypeFault.Typing (fault_at kind OfDomain n.now.name.at) }
+{
+    CheckTypeFault::Typing(TypeFault {
+        kind,
+        file: FileRole::Domain,
+        at: n.name.at,
+    })
+}
+
+impl<'a> Types<'a> {
+    /// The types, where each is declared once and none lies below itself.
+    pub(crate) fn of(alloc: Global, domain: &'a Domain) -> Result<Types<'a>, CheckTypeFault>
+        requires { IsShortDomain domain.now }
+        ensures types { IfOk result (λ t. t ≡ domain.now) }
+        ensures passed { IfOk result (λ t. All (Passes domain.now) (checks_of_each type_checks (entries domain.now))) }
+        ensures fault { IfErr result (HasFault domain.now (checks_of_each type_checks (entries domain.now))) }
+    {
+        let names = numbered(alloc, domain)?;
+        let parents = parents_of(alloc, &names, domain)?;
+        let types = Types {
+            domain,
+            names,
+            parents,
+        };
+        types.check_entries(alloc)?;
+        Ok(types)
+    }
+
+    /// The number of the type, which is that of its name among the types.
+    pub(crate) fn number_of(&self, name: &str) -> Option<u32>
+        ensures found { IfSome result (λ number. Contains (type_names self.now) name.now) }
+        ensures number { IfSome result (λ number. number ≡ place_in (type_names self.now) name.now) }
+        ensures none { IfNone result (Contains (type_names self.now) name.now → ⊥) }
+    {
+        self.names.place_of(name)
+    }
+
+    /// Whether each of the types is, or lies below, one of the others.
+    pub(crate) fn fit(&self, types: &[Name], others: &[Name]) -> bool
+        requires known { All (Contains (type_names self.now)) (texts types.now) }
+        ensures { IsTrue result ↔ FitsTypes self.now (texts types.now) (texts others.now) }
+    {
+        for name in types {
+            if !self.fits_one(name.text.as_str(), others) {
+                return false;
+            }
+        }
+        true
+    }
+
+    /// Whether the object's type is, or lies below, one of the types.
+    pub(crate) fn object_fits(&self, object: &TypedName, types: &[Name]) -> bool
+        requires known { Contains (type_names self.now) (type_of object.now) }
+        ensures { IsTrue result ↔ Any (LiesUnder self.now (type_of object.now)) (texts types.now) }
+    {
+        self.fits_one(type_text(object), types)
+    }
+
+    // Whether the type is, or lies below, one of the others.
+    fn fits_one(&self, name: &str, others: &[Name]) -> bool
+        requires known { Contains (type_names self.now) name.now }
+        ensures { IsTrue result ↔ Any (LiesUnder self.now name.now) (texts others.now) }
+    {
+        for other in others {
+            if self.is_under(name, other.text.as_str()) {
+                return true;
+            }
+        }
+        false
+    }
+
+    // Whether the type is, or lies below, the other.
+    fn is_under(&self, name: &str, other: &str) -> bool
+        requires known { Contains (type_names self.now) name.now }
+        ensures { IsTrue result ↔ LiesUnder self.now name.now other.now }
+    {
+        if other == "object" {
+            return true;
+        }
+        match (self.number_of(name), self.number_of(other)) {
+            (Some(from), Some(to)) => leads_to(self.parents.as_slice(), from, to),
+            _ => false,
+        }
+    }
+
+    // Whether the chain of parents from the type returns to it.
+    fn returns(&self, name: &str) -> bool
+        ensures { IsTrue result ↔ Returns self.now name.now }
+    {
+        let Some(number) = self.number_of(name) else {
+            return false;
+        };
+        let parents = self.parents.as_slice();
+        match parents[number as usize] {
+            Some(parent) => leads_to(parents, parent, number),
+            None => false,
+        }
+    }
+
+    // Whether it is known that no chain of parents returns.
+    fn none_returns(&self, alloc: Global) -> Result<bool, OutOfMemory>
+        ensures { IfOk result (λ none. IsTrue none → NoneReturns self.now) }
+    {
+        all_end(alloc, self.parents.as_slice())
+    }
+
+    // Whether a declared type is not `object`, and its chain of parents doesn't return to it.
+    fn is_acyclic(&self, none_returns: bool, name: &str) -> bool
+        requires known { IsTrue none_returns → NoneReturns self.now }
+        ensures { IsTrue result ↔ Meets self.now (Acyclic name.now) }
+    {
+        name != "object" && (none_returns || !self.returns(name))
+    }
+
+    // Checks a declared type behind those that are seen.
+    fn check_entry<'n>(
+        &self,
+        none_returns: bool,
+        seen: &mut Names<'n>,
+        n: &'n TypedName,
+    ) -> Result<(), CheckTypeFault>
+        requires known { IsTrue none_returns → NoneReturns self.now }
+        ensures added { OnOk result (seen.new ≡ seen.old ++ n.now.name.text ∷ []) }
+        ensures passed { OnOk result ((before : List PlainTypedName) → seen.old ≡ names_of before
+            → All (Passes self.now) (type_checks before n.now)) }
+        ensures fault { IfErr result (λ fault. (before : List PlainTypedName) → seen.old ≡ names_of before
+            → HasFault self.now (type_checks before n.now) fault) }
+    {
+        if !seen.add(n.name.text.as_str())? {
+            return Err(fault_of(TypeKind::Doubled, n));
+        }
+        if !self.is_acyclic(none_returns, n.name.text.as_str()) {
+            return Err(fault_of(TypeKind::TypeCycle, n));
+        }
+        Ok(())
+    }
+
+    // Checks the declared types in text order.
+    fn check_entries(&self, alloc: Global) -> Result<(), CheckTypeFault>
+        ensures passed { OnOk result (All (Passes self.now) (checks_of_each type_checks (entries self.now))) }
+        ensures fault { IfErr result (HasFault self.now (checks_of_each type_checks (entries self.now))) }
+    {
+        let none_returns = self.none_returns(alloc)?;
+        let domain = self.domain;
+        let mut seen = Names::new(alloc);
+        for n in &domain.types {
+            if is_entry(n) {
+                self.check_entry(none_returns, &mut seen, n)?;
+            }
+        }
+        Ok(())
+    }
+}
