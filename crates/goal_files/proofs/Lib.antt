@@ -7,3 +7,16 @@ pub mod Declared
 pub mod PlainAtoms
 pub mod LineGoals
 pub mod OneAnswer
+pub mod Mapped
+pub mod NumberedNames
+pub mod Places
+mod DeclaredCounts
+pub mod TypedTasks
+pub mod TypedLines
+pub mod TextParts
+pub mod LineFaults
+pub mod AtomSets
+pub mod GroundLaws
+pub mod TypedAnswers
+pub mod GoalAnswers
+pub mod ObservationAnswers

@@ -2,3 +2,8 @@ pub mod Names
 pub mod Lines
 pub mod Goals
 pub mod Reading
+pub mod Ground
+pub mod TypedLines
+pub mod TypedGoals
+pub mod Observations
+pub mod TypedReading

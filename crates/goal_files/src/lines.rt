@@ -1,5 +1,4 @@
 ghost use Rattle.std.specs.Prelude.{◌≡◌, ◌≤◌, ◌^◌, ◌⊎◌, ℕ, List, length, map, string_bytes, IfErr, IfOk, MatchOption, OnOk};
-ghost use Rattle.std.specs.Str.Lines.{strip_carriage_return};
 ghost use Rattle.goal_files.specs.Lines.{lines_of};
 ghost use Rattle.goal_files.specs.Goals.{IsGoalFault};
 ghost use Rattle.goal_files.specs.Reading.{AddsLine, ArePlainAtoms, HaveGoals, IsLineFault, IsLineGoal, IsPlainAtom};
@@ -7,7 +6,7 @@ ghost use Rattle.goal_files.specs.Reading.{AddsLine, ArePlainAtoms, HaveGoals, I
 use crate::atoms::read_atoms;
 use crate::faults::GoalFault;
 use crate::goal::Goal;
-use crate::pieces::is_skipped;
+use crate::pieces::{is_skipped, strip_carriage_return};
 use crate::predicates::Predicates;
 use std::alloc::{AllocError, Global};
 
@@ -86,16 +85,6 @@ fn add_line(
             Ok(())
         }
         None => Ok(()),
-    }
-}
-
-/// The part of a text before a line feed, without the carriage return at its end.
-fn strip_carriage_return(part: &[u8]) -> &[u8]
-    ensures { result.now ≡ strip_carriage_return part.now }
-{
-    match part {
-        [front @ .., b'\r'] => front,
-        _ => part,
     }
 }
 

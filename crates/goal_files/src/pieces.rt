@@ -2,6 +2,7 @@ ghost use Rattle.std.specs.Prelude.{◌≡◌, ℕ, ◌<◌, ◌≤◌, length, 
 ghost use Rattle.std.specs.List.{prefix_len};
 ghost use Rattle.std.specs.Option.{option_map};
 ghost use Rattle.std.specs.Str.{str_to_ascii_lowercase};
+ghost use Rattle.std.specs.Str.Lines.{strip_carriage_return};
 ghost use Rattle.goal_files.specs.Lines.{is_blank, is_name_byte, is_skipped};
 ghost use Rattle.goal_files.specs.Reading.{begins_name, IsAsciiPiece, front_of, past_blanks, piece_marks};
 
@@ -103,4 +104,14 @@ fn skip_blanks(line: &[u8]) -> &[u8]
     ensures { result.now ≡ past_blanks line.now }
 {
     &line[blank_len(line)..]
+}
+
+/// The part of a text before a line feed, without the carriage return at its end.
+pub(crate) fn strip_carriage_return(part: &[u8]) -> &[u8]
+    ensures { result.now ≡ strip_carriage_return part.now }
+{
+    match part {
+        [front @ .., b'\r'] => front,
+        _ => part,
+    }
 }

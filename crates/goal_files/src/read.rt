@@ -5,11 +5,9 @@ use crate::faults::GoalFault;
 use crate::goal::Goal;
 use crate::lines::read_lines;
 use crate::predicates::Predicates;
+use crate::typed_goals::MOST_GOALS;
 use pddl_reader::Domain;
 use std::alloc::Global;
-
-/// The most goals that a file may have.
-const MOST_GOALS: usize = 32;
 
 /// The goals that a text spells, where there are 1 to 32.
 fn some_goals(alloc: Global, domain: &Domain, text: &[u8]) -> Result<Vec<Goal>, GoalFault>

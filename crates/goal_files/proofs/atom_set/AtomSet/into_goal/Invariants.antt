@@ -1,0 +1,6 @@
+use Rattle.std.proofs.Common.{◌≡◌, ◌++◌, map}
+use Rattle.goal_files.specs.TypedReading.{key_atom}
+use Rattle.goal_files.proofs.atom_set.AtomSet.into_goal.Given as goal
+
+abbrev pub invariant-loop-predicate : goal.invariant-loop-predicate
+invariant-loop-predicate l = l.fn.self ≡ l.atoms.items ++ map key_atom l.predicate-iterator
