@@ -18,6 +18,7 @@ use Rattle.strips_model.specs.Plans.{State, after, step, start_of, IsCost, IsPla
 use Rattle.strips_model.specs.Common.{BeginsOptimal, IsCommon, HasPlan, IsWcd, IsRight, AreRight}
 use Rattle.plain_search.specs.Walks.{Visit}
 use Rattle.plain_search.specs.Live.{AreCosts, CostsAtMost, AreDeep, IsAt, IsVisited, LeadsTo, EndsAt, IsLive, AreLive, IsLiveFrom, IsLiveDeeper, Gathers, MissesBy, HasFewLive, ShareAt, AreFewFrom}
+use Rattle.plain_search.proofs.MoveLemmas.{IsGap}
 use Rattle.plain_search.proofs.WalkPlaceLemmas.{same_at, at_of_map}
 use Rattle.plain_search.proofs.WalkPlanLemmas.{some_same}
 use Rattle.plain_search.proofs.LiveLemmas.{reaches_parted, goal_of_task, same_cost, depth_is, live_back, live_end, live_on, exact}
@@ -151,6 +152,10 @@ module _ (t : PlainTask) (vs : List Visit) (depths : List ℕ) (s : State) (d : 
     ];
   }
 
+  -- the actions that are passed over lead nowhere
+  pub gathers_on : (part more : ℕ) (set : Set) → IsGap t part more → Gathers t vs depths s d part set → Gathers t vs depths s d more set
+  gathers_on part more set gap is = record { sound = is.sound; ends = is.ends; steps = λ g a place to low live. is.steps g a place to (gap s to.state a to.step low) live }
+
   pub leads_within : (a : ActionId) (place : ℕ) (live : List (Bits 1)) → LeadsTo t vs depths s d a place → IsLiveDeeper t vs depths d live → place < length live
   leads_within a place live to known = omega (arith, known.each_place, slice_get_within vs place to.deeper.visit to.deeper.there)
 
@@ -193,6 +198,9 @@ module _ (t : PlainTask) (vs : List Visit) (depths : List ℕ) (s : State) (d : 
         let by : LeadsTo t vs depths s d (record { 0 = part }) place = record { state = to.state; step = ap (λ n. step t s (record { 0 = n })) (sym same) ∙ to.step; deeper = to.deeper } in
         here place by live
   ]
+
+  pub misses_on : (g : GoalId) (part more : ℕ) → IsGap t part more → MissesBy t vs depths s d g part → MissesBy t vs depths s d g more
+  misses_on g part more gap misses a place to low live = misses a place to (gap s to.state a to.step low) live
 
   pub misses_all : AreDeep t vs depths → (g : GoalId) (part place : ℕ) → IsAt vs depths place s d → length t.actions ≤ part → MissesBy t vs depths s d g part
       → (u : State) (e : ℕ) → IsAt vs depths place u e → IsLive t u e g → EndsAt t u e g

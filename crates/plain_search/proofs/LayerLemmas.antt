@@ -14,9 +14,10 @@ use Rattle.strips_model.specs.Reached.{MoreThan}
 use Rattle.plain_search.specs.Walks.{Visit, HasState, IsNoted, AreWays, IsWalk}
 use Rattle.plain_search.specs.Layers.{IsWithin, IsLayered}
 use Rattle.plain_search.specs.Depths.{IsBegun, no_goal, AreDepths, IsDeepened, Deepens}
+use Rattle.plain_search.proofs.MoveLemmas.{IsGap}
 use Rattle.plain_search.proofs.WalkPlaceLemmas.{pushed_cases, pushed_old, pushed_new, old_at, there}
 use Rattle.plain_search.proofs.WalkPlanLemmas.{some_same}
-use Rattle.plain_search.proofs.WalkLemmas.{pushed, follow_noted, head_done, many_visits, begins}
+use Rattle.plain_search.proofs.WalkLemmas.{pushed, follow_noted, expands_on, head_done, many_visits, begins}
 
 never_holds : (t : PlainTask) (s : State) → goal_holds t (no_goal t) s ≡ false
 never_holds t s = ap (λ o. option_map_or (λ goal. satisfies goal s) o false) (slice_get_past t.goals (length t.goals) (omega arith))
@@ -134,6 +135,11 @@ more_steps t limit fewer steps le more = record {
   differ = more.differ;
   have = λ k d within. let is = more.have k d within in (is.0, is.1, omega (arith, is.2));
 }
+
+-- the actions that are passed over lead nowhere
+pub deepens_on : (t : PlainTask) (limit head part more : ℕ) (from : State) (deeper : ℕ) (vs : List Visit) (ds : List ℕ) → IsGap t part more → Deepens t limit head part from deeper vs ds → Deepens t limit head more from deeper vs ds
+deepens_on t limit head part more from deeper vs ds gap is =
+    record { walk = expands_on t (no_goal t) limit head part more from vs gap is.walk; depths = is.depths; depth = is.depth; here = is.here; next = is.next }
 
 -- all actions of the state at the head are followed
 pub deepened : (t : PlainTask) (limit head part : ℕ) (from : State) (deeper : ℕ) (vs : List Visit) (ds : List ℕ) → length t.actions ≤ part → Deepens t limit head part from deeper vs ds

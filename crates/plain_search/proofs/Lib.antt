@@ -1,3 +1,4 @@
+pub mod MoveLemmas
 pub mod WalkPlaceLemmas
 pub mod WalkStateLemmas
 pub mod WalkPlanLemmas

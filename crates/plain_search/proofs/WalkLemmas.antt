@@ -13,6 +13,7 @@ use Rattle.strips_model.specs.Plans.{State, after, step, start_of, goal_holds, I
 use Rattle.strips_model.specs.Reached.{IsReachedFor, MoreThan}
 use Rattle.plain_search.specs.Walks.{Visit, HasState, IsNoted, AreWays, HasVisit, IsWalk, Expands, IsExpanded, LeadsToGoal}
 use Rattle.plain_search.specs.Depths.{IsBegun}
+use Rattle.plain_search.proofs.MoveLemmas.{IsGap}
 use Rattle.plain_search.proofs.WalkPlaceLemmas.{pushed_cases, pushed_old, pushed_new, old_at, same_at, at_from_Any, Any-from_at, at_of_map}
 use Rattle.plain_search.proofs.WalkPlanLemmas.{some_same, some_and, after_push, after_nothing, no_action, first_step}
 
@@ -310,6 +311,29 @@ walk_begins t g first is_start misses =
     only : (k : ℕ) (v : Visit) → slice_get (first ∷ []) k ≡ Some v → v ≡ first
     only zero v at = cc
     only (suc k) v at = cc
+
+-- the actions that are passed over lead nowhere
+pub expands_on : (t : PlainTask) (g : GoalId) (limit head part more : ℕ) (from : State) (vs : List Visit) → IsGap t part more → Expands t g limit head part from vs → Expands t g limit head more from vs
+expands_on t g limit head part more from vs gap is =
+    let walk = is.walk in
+    record {
+      walk = record {
+        path = walk.path;
+        ways = walk.ways;
+        leads = walk.leads;
+        first = walk.first;
+        rise = walk.rise;
+        near = walk.near;
+        differ = walk.differ;
+        closed = walk.closed;
+        begun = λ v a u at low e. walk.begun v a u at (gap v.state u a e low) e;
+        missed = walk.missed;
+      };
+      few = is.few;
+      visit = is.visit;
+      here = is.here;
+      state = is.state;
+    }
 
 -- all actions of the state at the head are followed
 pub head_done : (t : PlainTask) (g : GoalId) (limit head part : ℕ) (from : State) (vs : List Visit) → length t.actions ≤ part → Expands t g limit head part from vs → IsExpanded t g limit (head + 1) vs

@@ -2,3 +2,4 @@ pub mod Walks
 pub mod Layers
 pub mod Depths
 pub mod Live
+pub mod Moves

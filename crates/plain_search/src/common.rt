@@ -11,8 +11,10 @@ use crate::completion::complete;
 use crate::faults::GoalSearchFault;
 use crate::layers::{Layers, layers_within};
 use crate::live::{Shared, last_shared};
+use crate::moves::Moves;
 use crate::visited::WalkFault;
 use crate::walk::fits;
+use crate::width::by_width;
 use grd_base::{ActionId, Bits, GoalId, OutOfMemory};
 use std::alloc::{AllocError, Global};
 use strips_model::{Task, Witness};
@@ -77,21 +79,21 @@ fn dearest(task: &Task, costs: &[Option<usize>]) -> Option<(GoalId, usize)>
 /// Visits the states within as many steps as the goal costs.
 fn layers_for<const W: usize>(
     alloc: Global,
-    task: &Task,
+    moves: &Moves,
     goal: GoalId,
     cost: usize,
     limit: u32,
 ) -> Result<Layers<W>, GoalSearchFault>
     requires width { W ≤ 64 }
-    requires atoms { task.now.atoms ≤ 64 * W }
-    requires goal { goal.0 < length task.now.goals }
-    requires cost { IsCost task.now goal [] (Some cost) }
+    requires atoms { moves.now.atoms ≤ 64 * W }
+    requires goal { goal.0 < length moves.now.goals }
+    requires cost { IsCost moves.now goal [] (Some cost) }
     requires limit { 1 ≤ limit }
-    ensures layered { IfOk result (λ l. IsLayered task.now cost (visits l.visited) l.depths.items) }
+    ensures layered { IfOk result (λ l. IsLayered moves.now cost (visits l.visited) l.depths.items) }
     ensures many { (g : GoalId) → result ≡ Err (GoalSearchFault.TooManyStates g)
-        → (g.0 < length task.now.goals) × MoreThan limit (IsReachedFor task.now g) }
+        → (g.0 < length moves.now.goals) × MoreThan limit (IsReachedFor moves.now g) }
 {
-    match layers_within(alloc, task, cost, limit) {
+    match layers_within(alloc, moves, cost, limit) {
         Ok(layers) => Ok(layers),
         Err(WalkFault::TooManyStates) => Err(GoalSearchFault::TooManyStates(goal)),
         Err(WalkFault::OutOfMemory) => Err(GoalSearchFault::OutOfMemory),
@@ -101,29 +103,29 @@ fn layers_for<const W: usize>(
 /// The way to the place that two goals share, with an optimal plan of each that begins with it.
 fn witness_at<const W: usize>(
     alloc: Global,
-    task: &Task,
+    moves: &Moves,
     layers: &Layers<W>,
     live: &[Bits<1>],
     shared: Shared,
 ) -> Result<Witness, OutOfMemory>
     requires width { W ≤ 64 }
-    requires atoms { task.now.atoms ≤ 64 * W }
-    requires deep { AreDeep task.now (visits layers.now.visited) layers.now.depths.items }
-    requires known { IsLiveFrom task.now
+    requires atoms { moves.now.atoms ≤ 64 * W }
+    requires deep { AreDeep moves.now (visits layers.now.visited) layers.now.depths.items }
+    requires known { IsLiveFrom moves.now
         (visits layers.now.visited) layers.now.depths.items shared.place live.now }
-    requires two { ShareAt task.now (visits layers.now.visited) layers.now.depths.items
+    requires two { ShareAt moves.now (visits layers.now.visited) layers.now.depths.items
         shared.place shared.first shared.second }
-    requires last { AreFewFrom task.now
+    requires last { AreFewFrom moves.now
         (visits layers.now.visited) layers.now.depths.items (shared.place + 1) }
-    ensures witness { IfOk result (λ w. IsWitness task.now [] w) }
-    ensures greatest { IfOk result (λ w. IsWcd task.now [] (Some (length w.prefix))) }
+    ensures witness { IfOk result (λ w. IsWitness moves.now [] w) }
+    ensures greatest { IfOk result (λ w. IsWcd moves.now [] (Some (length w.prefix))) }
 {
     let Ok(prefix) = layers.visited.way_to(alloc, shared.place) else {
         return Err(OutOfMemory);
     };
     let first = complete(
         alloc,
-        task,
+        moves,
         layers,
         live,
         prefix.as_slice(),
@@ -132,7 +134,7 @@ fn witness_at<const W: usize>(
     )?;
     let second = complete(
         alloc,
-        task,
+        moves,
         layers,
         live,
         prefix.as_slice(),
@@ -149,22 +151,58 @@ fn witness_at<const W: usize>(
 /// The answer by the layers that are as deep as each goal costs.
 fn wcd_in<const W: usize>(
     alloc: Global,
-    task: &Task,
+    moves: &Moves,
     costs: &[Option<usize>],
     layers: &Layers<W>,
 ) -> Result<Option<Witness>, OutOfMemory>
     requires width { W ≤ 64 }
-    requires atoms { task.now.atoms ≤ 64 * W }
-    requires costs { AreCosts task.now costs.now }
-    requires deep { AreDeep task.now (visits layers.now.visited) layers.now.depths.items }
-    ensures { IfOk result (IsRightWcd task.now []) }
+    requires atoms { moves.now.atoms ≤ 64 * W }
+    requires costs { AreCosts moves.now costs.now }
+    requires deep { AreDeep moves.now (visits layers.now.visited) layers.now.depths.items }
+    ensures { IfOk result (IsRightWcd moves.now []) }
 {
     let mut live = vec![in alloc; Bits::<1>::new(); layers.visited.len()]?;
-    let Some(shared) = last_shared(task, costs, layers, &mut live) else {
+    let Some(shared) = last_shared(moves, costs, layers, &mut live) else {
         return Ok(None);
     };
-    let witness = witness_at(alloc, task, layers, &live, shared)?;
+    let witness = witness_at(alloc, moves, layers, &live, shared)?;
     Ok(Some(witness))
+}
+
+/// The answer of `wcd`, by states of W words.
+fn longest_common<const W: usize>(
+    alloc: Global,
+    task: &Task,
+    found: &[Option<Vec<ActionId>>],
+    limit: u32,
+) -> Result<Option<Witness>, GoalSearchFault>
+    requires width { W ≤ 64 }
+    requires atoms { task.now.atoms ≤ 64 * W }
+    requires limit { 1 ≤ limit }
+    requires right { AreRight task.now [] (map (option_map (λ plan. plan.items)) found.now) }
+    ensures right { IfOk result (IsRightWcd task.now []) }
+    ensures in_range { IfOk result
+        (λ answer. IfSome answer
+        (λ w. All (λ a. a.0 < length task.now.actions) w.prefix × All
+        (λ a. a.0 < length task.now.actions) w.plans.0 × All
+        (λ a. a.0 < length task.now.actions) w.plans.1)) }
+    ensures goals { IfOk result
+        (λ answer. IfSome answer
+        (λ w. (w.goals.0.0 < length task.now.goals) × (w.goals.1.0 < length task.now.goals))) }
+    ensures many { (g : GoalId) → result ≡ Err (GoalSearchFault.TooManyStates g)
+        → (g.0 < length task.now.goals) × MoreThan limit (IsReachedFor task.now g) }
+{
+    let costs = costs_of(alloc, found)?;
+    if count_planned(&costs) < 2 {
+        return Ok(None);
+    }
+    let Some((goal, cost)) = dearest(task, &costs) else {
+        return Ok(None);
+    };
+    let moves = Moves::of(alloc, task)?;
+    let layers = layers_for::<W>(alloc, &moves, goal, cost, limit)?;
+    let answer = wcd_in(alloc, &moves, &costs, &layers)?;
+    Ok(answer)
 }
 
 /// A longest sequence with which optimal plans of two different goals begin, with two such plans, or
@@ -191,14 +229,5 @@ pub fn wcd(
         → (g.0 < length task.now.goals) × MoreThan limit (IsReachedFor task.now g) }
 {
     fits(task);
-    let costs = costs_of(alloc, found)?;
-    if count_planned(&costs) < 2 {
-        return Ok(None);
-    }
-    let Some((goal, cost)) = dearest(task, &costs) else {
-        return Ok(None);
-    };
-    let layers = layers_for::<64>(alloc, task, goal, cost, limit)?;
-    let answer = wcd_in(alloc, task, &costs, &layers)?;
-    Ok(answer)
+    by_width!(task.atoms, longest_common(alloc, task, found, limit))
 }

@@ -7,6 +7,7 @@ ghost use Rattle.plain_search.specs.Live.{AreDeep, IsAt, IsVisited, LeadsTo, End
 
 use crate::layers::Layers;
 use crate::live::next_place;
+use crate::moves::Moves;
 use grd_base::{ActionId, Bits, GoalId, OutOfMemory};
 use std::alloc::Global;
 use strips_model::Task;
@@ -51,31 +52,32 @@ fn live_place<const W: usize>(
 
 /// The first action that leads from the place to a deeper one where the goal is live, with that place.
 fn live_step<const W: usize>(
-    task: &Task,
+    moves: &Moves,
     layers: &Layers<W>,
     live: &[Bits<1>],
     place: usize,
     goal: GoalId,
 ) -> Option<(ActionId, usize)>
     requires width { W ≤ 64 }
-    requires atoms { task.now.atoms ≤ 64 * W }
+    requires atoms { moves.now.atoms ≤ 64 * W }
     requires goal { goal.0 < 64 }
-    requires deep { AreDeep task.now (visits layers.now.visited) layers.now.depths.items }
-    requires known { IsLiveFrom task.now
+    requires deep { AreDeep moves.now (visits layers.now.visited) layers.now.depths.items }
+    requires known { IsLiveFrom moves.now
         (visits layers.now.visited) layers.now.depths.items place live.now }
     ensures found { IfSome result
-        (λ next. IsNext task.now
+        (λ next. IsNext moves.now
         (visits layers.now.visited) layers.now.depths.items goal place next.0 next.1) }
     ensures none { IfNone result ((s : State) (d : ℕ)
         → IsAt (visits layers.now.visited) layers.now.depths.items place s d
-        → IsLive task.now s d goal → EndsAt task.now s d goal) }
+        → IsLive moves.now s d goal → EndsAt moves.now s d goal) }
 {
     let from = layers.visited.state(place)?;
     let depth = layers.depths[place];
-    for i in 0..task.actions.len() {
-        let a = ActionId(i as u32);
-        if let Some(next) = live_place(task, layers, live, &from, depth, goal, a) {
-            return Some((a, next));
+    let task = moves.task();
+    let unblocked = moves.unblocked();
+    for a in unblocked {
+        if let Some(next) = live_place(task, layers, live, &from, depth, goal, *a) {
+            return Some((*a, next));
         }
     }
     None
@@ -85,7 +87,7 @@ fn live_step<const W: usize>(
 /// and then a step at a time to where the goal ends.
 pub(crate) fn complete<const W: usize>(
     alloc: Global,
-    task: &Task,
+    moves: &Moves,
     layers: &Layers<W>,
     live: &[Bits<1>],
     prefix: &[ActionId],
@@ -93,21 +95,21 @@ pub(crate) fn complete<const W: usize>(
     goal: GoalId,
 ) -> Result<Vec<ActionId>, OutOfMemory>
     requires width { W ≤ 64 }
-    requires atoms { task.now.atoms ≤ 64 * W }
+    requires atoms { moves.now.atoms ≤ 64 * W }
     requires goal { goal.0 < 64 }
-    requires deep { AreDeep task.now (visits layers.now.visited) layers.now.depths.items }
-    requires known { IsLiveFrom task.now
+    requires deep { AreDeep moves.now (visits layers.now.visited) layers.now.depths.items }
+    requires known { IsLiveFrom moves.now
         (visits layers.now.visited) layers.now.depths.items place live.now }
     requires way { IsWay (visits layers.now.visited) place prefix.now }
     requires live { (s : State) × (d : ℕ)
         × IsAt (visits layers.now.visited) layers.now.depths.items place s d
-        × IsLive task.now s d goal }
-    ensures least { IfOk result (λ plan. IsOptimal task.now goal [] plan.items) }
+        × IsLive moves.now s d goal }
+    ensures least { IfOk result (λ plan. IsOptimal moves.now goal [] plan.items) }
     ensures begins { IfOk result (λ plan. BeginsWith plan.items prefix.now) }
 {
     let mut plan = Vec::from_slice(alloc, prefix)?;
     let mut at = place;
-    while let Some((a, next)) = live_step(task, layers, live, at, goal) {
+    while let Some((a, next)) = live_step(moves, layers, live, at, goal) {
         plan.push(a)?;
         at = next;
     }

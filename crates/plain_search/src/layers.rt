@@ -5,6 +5,7 @@ ghost use Rattle.plain_search.specs.Walks.{visits};
 ghost use Rattle.plain_search.specs.Layers.{IsWithin, IsLayered};
 ghost use Rattle.plain_search.specs.Depths.{Deepens, IsDeepened};
 
+use crate::moves::Moves;
 use crate::visited::{Step, Visited, WalkFault};
 use crate::walk::{advance, begin};
 use grd_base::{ActionId, Bits};
@@ -52,10 +53,10 @@ fn deepen<const W: usize>(
     Ok(())
 }
 
-/// Follows every action from the state at the head. The depth of a new state is `deeper`, one more
+/// Follows the unblocked actions from the state at the head. The depth of a new state is `deeper`, one more
 /// than that of the head.
 fn expand<const W: usize>(
-    task: &Task,
+    moves: &Moves,
     layers: &mut Layers<W>,
     head: usize,
     from: &Bits<W>,
@@ -63,15 +64,17 @@ fn expand<const W: usize>(
     limit: u32,
 ) -> Result<(), WalkFault>
     requires width { W ≤ 64 }
-    requires atoms { task.now.atoms ≤ 64 * W }
-    requires deepens { Deepens task.now limit head 0 (members from.now) deeper
+    requires atoms { moves.now.atoms ≤ 64 * W }
+    requires deepens { Deepens moves.now limit head 0 (members from.now) deeper
         (visits layers.old.visited) layers.old.depths.items }
-    ensures expanded { OnOk result (IsDeepened task.now limit deeper (head + 1)
+    ensures expanded { OnOk result (IsDeepened moves.now limit deeper (head + 1)
         (visits layers.new.visited) layers.new.depths.items) }
-    ensures many { result ≡ Err WalkFault.TooManyStates → MoreThan limit (IsWithin task.now deeper) }
+    ensures many { result ≡ Err WalkFault.TooManyStates → MoreThan limit (IsWithin moves.now deeper) }
 {
-    for i in 0..task.actions.len() {
-        deepen(task, layers, head, from, deeper, ActionId(i as u32), limit)?;
+    let task = moves.task();
+    let unblocked = moves.unblocked();
+    for a in unblocked {
+        deepen(task, layers, head, from, deeper, *a, limit)?;
     }
     Ok(())
 }
@@ -79,18 +82,18 @@ fn expand<const W: usize>(
 /// Visits the states within `steps` steps from the start.
 pub(crate) fn layers_within<const W: usize>(
     alloc: Global,
-    task: &Task,
+    moves: &Moves,
     steps: usize,
     limit: u32,
 ) -> Result<Layers<W>, WalkFault>
     requires width { W ≤ 64 }
-    requires atoms { task.now.atoms ≤ 64 * W }
+    requires atoms { moves.now.atoms ≤ 64 * W }
     requires limit { 1 ≤ limit }
-    ensures layered { IfOk result (λ l. IsLayered task.now steps (visits l.visited) l.depths.items) }
-    ensures many { result ≡ Err WalkFault.TooManyStates → MoreThan limit (IsWithin task.now steps) }
+    ensures layered { IfOk result (λ l. IsLayered moves.now steps (visits l.visited) l.depths.items) }
+    ensures many { result ≡ Err WalkFault.TooManyStates → MoreThan limit (IsWithin moves.now steps) }
 {
     let mut layers = Layers {
-        visited: begin(alloc, task, limit)?,
+        visited: begin(alloc, moves.task(), limit)?,
         depths: vec![in alloc; 0]?,
     };
     let mut head = 0;
@@ -100,7 +103,7 @@ pub(crate) fn layers_within<const W: usize>(
             // The later states are at least as deep.
             return Ok(layers);
         }
-        expand(task, &mut layers, head, &from, depth + 1, limit)?;
+        expand(moves, &mut layers, head, &from, depth + 1, limit)?;
         head += 1;
     }
     Ok(layers)

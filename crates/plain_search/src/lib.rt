@@ -7,8 +7,10 @@ mod cost;
 mod faults;
 mod layers;
 mod live;
+mod moves;
 mod visited;
 mod walk;
+mod width;
 
 pub use common::wcd;
 pub use cost::costs;

@@ -5,6 +5,7 @@ ghost use Rattle.plain_search.specs.Walks.{visits};
 ghost use Rattle.plain_search.specs.Live.{AreCosts, AreDeep, IsVisited, LeadsTo, EndsAt, AreLive, IsLiveFrom, IsLiveDeeper, Gathers, AreFewFrom, ShareAt};
 
 use crate::layers::Layers;
+use crate::moves::Moves;
 use crate::walk::advance;
 use grd_base::{ActionId, Bits, GoalId};
 use strips_model::{Task, holds};
@@ -110,7 +111,7 @@ fn add_live<const W: usize>(
 /// The goals that are live in the state: those with an optimal plan that goes through it at this
 /// depth. It takes them from the goals that are live one step deeper.
 fn live_in<const W: usize>(
-    task: &Task,
+    moves: &Moves,
     costs: &[Option<usize>],
     layers: &Layers<W>,
     live: &[Bits<1>],
@@ -118,26 +119,20 @@ fn live_in<const W: usize>(
     depth: usize,
 ) -> Bits<1>
     requires width { W ≤ 64 }
-    requires atoms { task.now.atoms ≤ 64 * W }
-    requires costs { AreCosts task.now costs.now }
-    requires deep { AreDeep task.now (visits layers.now.visited) layers.now.depths.items }
+    requires atoms { moves.now.atoms ≤ 64 * W }
+    requires costs { AreCosts moves.now costs.now }
+    requires deep { AreDeep moves.now (visits layers.now.visited) layers.now.depths.items }
     requires from { IsVisited
         (visits layers.now.visited) layers.now.depths.items (members from.now) depth }
-    requires known { IsLiveDeeper task.now
+    requires known { IsLiveDeeper moves.now
         (visits layers.now.visited) layers.now.depths.items depth live.now }
-    ensures { AreLive task.now (members from.now) depth (members result) }
+    ensures { AreLive moves.now (members from.now) depth (members result) }
 {
+    let task = moves.task();
+    let unblocked = moves.unblocked();
     let mut here = ending(task, costs, from, depth);
-    for i in 0..task.actions.len() {
-        add_live(
-            task,
-            layers,
-            live,
-            from,
-            depth,
-            &mut here,
-            ActionId(i as u32),
-        );
+    for a in unblocked {
+        add_live(task, layers, live, from, depth, &mut here, *a);
     }
     here
 }
@@ -173,31 +168,32 @@ fn two_goals(set: &Bits<1>, bound: u32) -> Option<(GoalId, GoalId)>
 
 /// Notes the goals that are live at the place, and finds two of them.
 fn settle<const W: usize>(
-    task: &Task,
+    moves: &Moves,
     costs: &[Option<usize>],
     layers: &Layers<W>,
     live: &mut [Bits<1>],
     place: usize,
 ) -> Option<(GoalId, GoalId)>
     requires width { W ≤ 64 }
-    requires atoms { task.now.atoms ≤ 64 * W }
-    requires costs { AreCosts task.now costs.now }
-    requires deep { AreDeep task.now (visits layers.now.visited) layers.now.depths.items }
+    requires atoms { moves.now.atoms ≤ 64 * W }
+    requires costs { AreCosts moves.now costs.now }
+    requires deep { AreDeep moves.now (visits layers.now.visited) layers.now.depths.items }
     requires place { place < length live.old }
-    requires known { IsLiveFrom task.now
+    requires known { IsLiveFrom moves.now
         (visits layers.now.visited) layers.now.depths.items (place + 1) live.old }
-    requires few { AreFewFrom task.now
+    requires few { AreFewFrom moves.now
         (visits layers.now.visited) layers.now.depths.items (place + 1) }
-    ensures known { IsLiveFrom task.now
+    ensures known { IsLiveFrom moves.now
         (visits layers.now.visited) layers.now.depths.items place live.new }
     ensures two { IfSome result
-        (λ pair. ShareAt task.now
+        (λ pair. ShareAt moves.now
         (visits layers.now.visited) layers.now.depths.items place pair.0 pair.1) }
-    ensures few { IfNone result (AreFewFrom task.now
+    ensures few { IfNone result (AreFewFrom moves.now
         (visits layers.now.visited) layers.now.depths.items place) }
 {
+    let task = moves.task();
     let from = layers.visited.state(place)?;
-    let here = live_in(task, costs, layers, live, &from, layers.depths[place]);
+    let here = live_in(moves, costs, layers, live, &from, layers.depths[place]);
     live[place] = here;
     two_goals(&here, task.goals.len() as u32)
 }
@@ -213,32 +209,32 @@ pub(crate) struct Shared {
 /// The last place at which two goals are live, with the two least of them. It goes back from the
 /// last place and stops there, with the live goals of the places so far noted.
 pub(crate) fn last_shared<const W: usize>(
-    task: &Task,
+    moves: &Moves,
     costs: &[Option<usize>],
     layers: &Layers<W>,
     live: &mut [Bits<1>],
 ) -> Option<Shared>
     requires width { W ≤ 64 }
-    requires atoms { task.now.atoms ≤ 64 * W }
-    requires costs { AreCosts task.now costs.now }
-    requires deep { AreDeep task.now (visits layers.now.visited) layers.now.depths.items }
+    requires atoms { moves.now.atoms ≤ 64 * W }
+    requires costs { AreCosts moves.now costs.now }
+    requires deep { AreDeep moves.now (visits layers.now.visited) layers.now.depths.items }
     requires each_place { length live.old ≡ length layers.now.visited }
     ensures known { IfSome result
-        (λ shared. IsLiveFrom task.now
+        (λ shared. IsLiveFrom moves.now
         (visits layers.now.visited) layers.now.depths.items shared.place live.new) }
     ensures two { IfSome result
-        (λ shared. ShareAt task.now (visits layers.now.visited) layers.now.depths.items
+        (λ shared. ShareAt moves.now (visits layers.now.visited) layers.now.depths.items
         shared.place shared.first shared.second) }
     ensures last { IfSome result
-        (λ shared. AreFewFrom task.now
+        (λ shared. AreFewFrom moves.now
         (visits layers.now.visited) layers.now.depths.items (shared.place + 1)) }
-    ensures none { IfNone result (AreFewFrom task.now
+    ensures none { IfNone result (AreFewFrom moves.now
         (visits layers.now.visited) layers.now.depths.items 0) }
 {
     let mut place = live.len();
     while place > 0 {
         place -= 1;
-        if let Some((first, second)) = settle(task, costs, layers, live, place) {
+        if let Some((first, second)) = settle(moves, costs, layers, live, place) {
             return Some(Shared {
                 place,
                 first,

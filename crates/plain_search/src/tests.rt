@@ -2,6 +2,7 @@ ghost use Rattle.std.specs.Prelude.{◌≡◌, ◌<◌, IfOk, length, [], ◌∷
 
 use super::*;
 use crate::layers::layers_within;
+use crate::moves::Moves;
 use crate::visited::WalkFault;
 use grd_base::{ActionId, AtomId, GoalId};
 use std::alloc::Global;
@@ -104,11 +105,12 @@ fn the_goal_that_meets_the_limit_is_told(rt: HostRuntime) -> Result<(), Fail> {
 #[test]
 fn layers_end_at_the_steps(rt: HostRuntime) -> Result<(), Fail> {
     let task = fork(rt.alloc(), 3, 4)?;
-    let near = layers_within::<1>(rt.alloc(), &task, 2, 3).map_err(|_| "no layers")?;
+    let moves = Moves::of(rt.alloc(), &task)?;
+    let near = layers_within::<1>(rt.alloc(), &moves, 2, 3).map_err(|_| "no layers")?;
     assert!(rt; near.depths.as_slice() == [0, 1, 2].as_slice());
-    let all = layers_within::<1>(rt.alloc(), &task, 9, 5).map_err(|_| "no layers")?;
+    let all = layers_within::<1>(rt.alloc(), &moves, 9, 5).map_err(|_| "no layers")?;
     assert!(rt; all.depths.as_slice() == [0, 1, 2, 3, 3].as_slice());
-    let many = layers_within::<1>(rt.alloc(), &task, 3, 4).err();
+    let many = layers_within::<1>(rt.alloc(), &moves, 3, 4).err();
     assert_eq!(rt; many, Some(WalkFault::TooManyStates));
     Ok(())
 }

@@ -6,6 +6,7 @@ ghost use Rattle.strips_model.specs.Reached.{IsReachedFor, MoreThan};
 ghost use Rattle.plain_search.specs.Walks.{visits, IsExpanded, Expands, LeadsToGoal};
 ghost use Rattle.plain_search.specs.Depths.{IsBegun};
 
+use crate::moves::Moves;
 use crate::visited::{Step, Visited, WalkFault};
 use grd_base::{ActionId, Bits, GoalId};
 use std::alloc::Global;
@@ -63,9 +64,9 @@ fn follow<const W: usize>(
     Ok(false)
 }
 
-/// Follows every action from the state at the head, up to one that leads to the goal.
+/// Follows the unblocked actions from the state at the head, up to one that leads to the goal.
 fn expand<const W: usize>(
-    task: &Task,
+    moves: &Moves,
     goal: GoalId,
     visited: &mut Visited<W>,
     head: usize,
@@ -73,22 +74,23 @@ fn expand<const W: usize>(
     limit: u32,
 ) -> Result<Option<ActionId>, WalkFault>
     requires width { W ≤ 64 }
-    requires atoms { task.now.atoms ≤ 64 * W }
-    requires goal { goal.0 < length task.now.goals }
-    requires expands { Expands task.now goal limit head 0 (members from.now) (visits visited.old) }
+    requires atoms { moves.now.atoms ≤ 64 * W }
+    requires goal { goal.0 < length moves.now.goals }
+    requires expands { Expands moves.now goal limit head 0 (members from.now) (visits visited.old) }
     ensures led { IfOk result
         (λ found. IfSome found
-        (λ a. Expands task.now goal limit head a.0 (members from.now) (visits visited.new) ×
-        LeadsToGoal task.now goal (members from.now) a)) }
+        (λ a. Expands moves.now goal limit head a.0 (members from.now) (visits visited.new) ×
+        LeadsToGoal moves.now goal (members from.now) a)) }
     ensures passed { IfOk result
-        (λ found. IfNone found (IsExpanded task.now goal limit (head + 1) (visits visited.new))) }
+        (λ found. IfNone found (IsExpanded moves.now goal limit (head + 1) (visits visited.new))) }
     ensures many { result ≡ Err WalkFault.TooManyStates → MoreThan limit
-        (IsReachedFor task.now goal) }
+        (IsReachedFor moves.now goal) }
 {
-    for i in 0..task.actions.len() {
-        let a = ActionId(i as u32);
-        if follow(task, goal, visited, head, from, a, limit)? {
-            return Ok(Some(a));
+    let task = moves.task();
+    let unblocked = moves.unblocked();
+    for a in unblocked {
+        if follow(task, goal, visited, head, from, *a, limit)? {
+            return Ok(Some(*a));
         }
     }
     Ok(None)
@@ -97,23 +99,23 @@ fn expand<const W: usize>(
 /// Expands the visited states in their order, up to one with a step to the goal.
 fn explore<const W: usize>(
     alloc: Global,
-    task: &Task,
+    moves: &Moves,
     goal: GoalId,
     mut visited: Visited<W>,
     limit: u32,
 ) -> Result<Option<Vec<ActionId>>, WalkFault>
     requires width { W ≤ 64 }
-    requires atoms { task.now.atoms ≤ 64 * W }
-    requires goal { goal.0 < length task.now.goals }
-    requires expanded { IsExpanded task.now goal limit 0 (visits visited) }
-    ensures least { IfOk result (λ answer. IfSome answer (λ plan. IsOptimal task.now goal [] plan.items)) }
-    ensures none { IfOk result (λ answer. IfNone answer (IsCost task.now goal [] None)) }
+    requires atoms { moves.now.atoms ≤ 64 * W }
+    requires goal { goal.0 < length moves.now.goals }
+    requires expanded { IsExpanded moves.now goal limit 0 (visits visited) }
+    ensures least { IfOk result (λ answer. IfSome answer (λ plan. IsOptimal moves.now goal [] plan.items)) }
+    ensures none { IfOk result (λ answer. IfNone answer (IsCost moves.now goal [] None)) }
     ensures many { result ≡ Err WalkFault.TooManyStates → MoreThan limit
-        (IsReachedFor task.now goal) }
+        (IsReachedFor moves.now goal) }
 {
     let mut head = 0;
     while let Some(from) = visited.state(head) {
-        if let Some(last) = expand(task, goal, &mut visited, head, &from, limit)? {
+        if let Some(last) = expand(moves, goal, &mut visited, head, &from, limit)? {
             let mut plan = visited.way_to(alloc, head)?;
             plan.push(last)?;
             return Ok(Some(plan));
@@ -154,26 +156,28 @@ pub(crate) fn begin<const W: usize>(
 
 /// A shortest plan of the goal, or none where there is no plan. It visits the reached states in
 /// layers, and tests each state for the goal when it first meets it.
-pub(crate) fn least_plan(
+pub(crate) fn least_plan<const W: usize>(
     alloc: Global,
-    task: &Task,
+    moves: &Moves,
     goal: GoalId,
     limit: u32,
 ) -> Result<Option<Vec<ActionId>>, WalkFault>
-    requires goal { goal.0 < length task.now.goals }
+    requires width { W ≤ 64 }
+    requires atoms { moves.now.atoms ≤ 64 * W }
+    requires goal { goal.0 < length moves.now.goals }
     requires limit { 1 ≤ limit }
-    ensures least { IfOk result (λ answer. IfSome answer (λ plan. IsOptimal task.now goal [] plan.items)) }
-    ensures none { IfOk result (λ answer. IfNone answer (IsCost task.now goal [] None)) }
+    ensures least { IfOk result (λ answer. IfSome answer (λ plan. IsOptimal moves.now goal [] plan.items)) }
+    ensures none { IfOk result (λ answer. IfNone answer (IsCost moves.now goal [] None)) }
     ensures in_range { IfOk result
-        (λ answer. IfSome answer (λ plan. All (λ a. a.0 < length task.now.actions) plan.items)) }
+        (λ answer. IfSome answer (λ plan. All (λ a. a.0 < length moves.now.actions) plan.items)) }
     ensures many { result ≡ Err WalkFault.TooManyStates → MoreThan limit
-        (IsReachedFor task.now goal) }
+        (IsReachedFor moves.now goal) }
 {
-    fits(task);
-    let first = start::<64>(task);
+    let task = moves.task();
+    let first = start::<W>(task);
     if holds(task, &first, goal) {
         return Ok(Some(Vec::new(alloc)));
     }
-    let visited = begin::<64>(alloc, task, limit)?;
-    explore(alloc, task, goal, visited, limit)
+    let visited = begin::<W>(alloc, task, limit)?;
+    explore(alloc, moves, goal, visited, limit)
 }

@@ -65,7 +65,7 @@ returns-clause-greatest g c =
     let depths = c.args.layers.now.depths.items in
     let prefix = c.in-Ok.prefix.items in
     let deep : two.depth ≡ length prefix =
-    depth_is c.args.task.now vs depths c.requires.deep c.args.shared.place two.state two.depth two.here ∙ ap length (sym (c.in-Ok.ensures.way layered.path layered.ways)) in
+    depth_is c.args.moves.now vs depths c.requires.deep c.args.shared.place two.state two.depth two.here ∙ ap length (sym (c.in-Ok.ensures.way layered.path layered.ways)) in
     let first = subst (λ p. BeginsWith c.in_ok-first.first.items p) c.as_slice.ensures.value c.in_ok-first.ensures.begins in
     let second = subst (λ p. BeginsWith c.in_ok-second.second.items p) c.as_slice-2.ensures.value c.in_ok-second.ensures.begins in (
       (
@@ -80,5 +80,5 @@ returns-clause-greatest g c =
         },
       ),
       λ i j q common.
-          omega (arith, greatest c.args.task.now vs depths c.requires.deep c.args.shared.place two.state two.depth two.here c.requires.last i j q common),
+          omega (arith, greatest c.args.moves.now vs depths c.requires.deep c.args.shared.place two.state two.depth two.here c.requires.last i j q common),
     )

@@ -5,7 +5,7 @@ use Rattle.plain_search.proofs.completion.complete.Given as goal
 
 abbrev pub invariant-loop-a : goal.invariant-loop-a
 invariant-loop-a g l = record {
-  part : IsPart l.task (visits l.layers.visited) l.layers.depths.items l.goal l.fn.prefix l.at l.plan.items;
+  part : IsPart l.moves (visits l.layers.visited) l.layers.depths.items l.goal l.fn.prefix l.at l.plan.items;
   behind : l.fn.place ≤ l.at;
 }
 

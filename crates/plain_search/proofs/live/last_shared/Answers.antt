@@ -20,7 +20,7 @@ settle-requires g c =
               c.requires.deep,
               (
                 search rules,
-                (subst (λ n. IsLiveFrom c.args.task.now vs depths n c.loop-place.live) same c.loop-place.invariant.known, λ k s d low. c.loop-place.invariant.few k s d (omega arith)),
+                (subst (λ n. IsLiveFrom c.args.moves.now vs depths n c.loop-place.live) same c.loop-place.invariant.known, λ k s d low. c.loop-place.invariant.few k s d (omega arith)),
               ),
             ),
           ),

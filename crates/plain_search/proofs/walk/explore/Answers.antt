@@ -11,7 +11,7 @@ use Rattle.plain_search.proofs.walk.explore.Goals as goal
 pub expand-requires : goal.expand-requires
 expand-requires g c =
     let there = state_there (visits c.loop-from.visited) c.loop-from.head c.in-Some.from (ap (option_map members) (sym c.in-Some.is) ∙ c.state.ensures) in
-    let expands : Expands c.args.task.now c.args.goal c.args.limit c.loop-from.head 0 (members c.in-Some.from) (visits c.loop-from.visited) =
+    let expands : Expands c.args.moves.now c.args.goal c.args.limit c.loop-from.head 0 (members c.in-Some.from) (visits c.loop-from.visited) =
     record { walk = c.loop-from.invariant.walk; few = c.loop-from.invariant.few; visit = there.0; here = there.1; state = there.2 } in
     (search rules, (search rules, (c.requires.width, (c.requires.atoms, (c.requires.goal, expands)))))
 
@@ -24,7 +24,7 @@ way_to-requires g c =
 pub returns-in-Some-2-clause-least : goal.returns-in-Some-2-clause-least
 returns-in-Some-2-clause-least g c =
     let led = if_some c.in_ok-last.field-0 _ c.in-Some-2.last c.in_ok-last.ensures.led c.in-Some-2.is in
-    led_least c.args.task.now c.args.goal c.args.limit c.loop-from.head (members c.in-Some.from) c.in-Some-2.last (visits c.expand.new.visited) led.0 led.1 _ _
+    led_least c.args.moves.now c.args.goal c.args.limit c.loop-from.head (members c.in-Some.from) c.in-Some-2.last (visits c.expand.new.visited) led.0 led.1 _ _
     (c.in_ok-plan.ensures.way led.0.walk.path led.0.walk.ways) c.in_ok-push.ensures.items
 
 pub overflow_add-head : goal.overflow_add-head
@@ -41,5 +41,5 @@ loop-from-smaller g c =
 
 pub returns-clause-none : goal.returns-clause-none
 returns-clause-none g c =
-    found_none c.args.task.now c.args.goal c.loop-from.head 0 (visits c.loop-from.visited) c.loop-from.invariant.walk
+    found_none c.args.moves.now c.args.goal c.loop-from.head 0 (visits c.loop-from.visited) c.loop-from.invariant.walk
     (no_state (visits c.loop-from.visited) c.loop-from.head c.in_default.ensures)
