@@ -25,6 +25,18 @@ check() {
     fi
 }
 
+# check_costs FILES: what `wcd` prints with its plans cut off, where several plans are optimal
+check_costs() {
+    local files=$1
+    "$program" wcd --domain "$files/domain.pddl" --problem "$files/problem.pddl" --goals "$files/goals.txt" >"$printed" 2>"$warned"
+    if [ "$?" = 0 ] && sed 's/ (.*//' "$printed" | cmp -s - "$files/expected_costs.txt" && [ ! -s "$warned" ]; then
+        echo "ok: costs and wcd of $files"
+    else
+        echo "FAILED: costs and wcd of $files"
+        failed=1
+    fi
+}
+
 # check_files WANTED-ERROR-LINE DOMAIN PROBLEM
 check_files() {
     check 1 /dev/null "$1" cost --domain "$2" --problem "$3" --goals "$fork/goals.txt"
@@ -35,12 +47,20 @@ keep=../../examples/keep
 loose=../../examples/loose
 rooms=../../examples/rooms
 refused=../../examples/refused
-for files in "$fork" "$keep" "$loose"; do
+logistics=../../examples/logistics
+campus=../../examples/campus
+for files in "$fork" "$keep" "$loose" "$logistics" "$campus"; do
     check 0 "$files/expected.txt" "" cost --domain "$files/domain.pddl" --problem "$files/problem.pddl" --goals "$files/goals.txt"
 done
 on_fork=(--domain "$fork/domain.pddl" --problem "$fork/problem.pddl")
 check 0 "$fork/expected_wcd.txt" "" wcd "${on_fork[@]}" --goals "$fork/two_goals.txt"
 check 0 "$fork/expected_wcd.txt" "" wcd --max-states=5 "${on_fork[@]}" "--goals=$fork/two_goals.txt"
+for files in "$logistics" "$campus"; do
+    check 0 "$files/expected_wcd.txt" "" wcd --domain "$files/domain.pddl" --problem "$files/problem.pddl" --goals "$files/goals.txt"
+done
+for files in grid blocks gripper; do
+    check_costs "../../examples/$files"
+done
 for files in "$keep" "$rooms"; do
     check 0 "$files/expected_show.txt" "" show --domain "$files/domain.pddl" --problem "$files/problem.pddl"
 done
@@ -48,9 +68,10 @@ done
 check_files "grd: domain: empty" /dev/null "$fork/problem.pddl"
 check_files "grd: domain: byte 0: unclosed" "$refused/unclosed.pddl" "$fork/problem.pddl"
 check_files "grd: domain: byte 38: unsupported numeric effect" "$refused/numeric_effect.pddl" "$fork/problem.pddl"
-check_files "grd: problem: byte 0: unclosed" "$refused/typed.pddl" "$refused/unclosed.pddl"
-check_files "grd: domain: not yet read" "$refused/typed.pddl" "$keep/problem.pddl"
-check_files "grd: problem: not yet read" "$fork/domain.pddl" "$keep/problem.pddl"
+check_files "grd: problem: byte 0: unclosed" "$refused/unknown_type.pddl" "$refused/unclosed.pddl"
+check_files "grd: domain: byte 59: unknown type" "$refused/unknown_type.pddl" "$keep/problem.pddl"
+check_files "grd: problem: byte 29: other domain" "$fork/domain.pddl" "$keep/problem.pddl"
+check 1 /dev/null "grd: 3136 atoms, limit 3072" cost --domain "$refused/many_atoms.pddl" --problem "$fork/problem.pddl" --goals "$refused/at_start.txt"
 check 1 /dev/null "grd: goals: line 3: unknown atom" wcd "${on_fork[@]}" --goals "$fork/unknown_atom.txt"
 check 1 /dev/null "grd: problem: byte 0: unclosed" show --domain "$rooms/domain.pddl" --problem "$refused/unclosed.pddl"
 check 2 /dev/null "grd: usage: no command"

@@ -1,5 +1,5 @@
 -- Sets of atoms: each atom once, at its first place.
-use Rattle.std.proofs.Common.{◌≡◌, ℕ, ◌+◌, ◌<◌, Bool, true, false, cond, not, ◌||◌, eqb, List, [], ◌∷◌, ◌++◌, length, map, filter, take, zero, suc, get_or, refl, sym, ap, ◌∙◌, subst, arith, append-nil}
+use Rattle.std.proofs.Common.{◌≡◌, ℕ, ◌+◌, ◌<◌, Bool, true, false, cond, not, ◌||◌, ◌&&◌, eqb, List, [], ◌∷◌, ◌++◌, length, map, filter, take, zero, suc, get_or, refl, sym, ap, ◌∙◌, subst, arith, append-nil}
 use mathlib.Core.Path.{ap₂}
 use Rattle.std.specs.List.{list_any}
 use Rattle.std.specs.Str.{bytes_eq}
@@ -10,10 +10,9 @@ use Rattle.std.proofs.lemmas.List.{map_push, take_more}
 use Rattle.std.proofs.lemmas.List.Elements.{filter-append}
 use Rattle.std.proofs.lemmas.Slice.Eq.{bytes_eq-Decides}
 use Rattle.pddl_reader.specs.Sections.{Pairwise}
-use Rattle.type_check.specs.Values.{PlainGroundAtom, PlainTyped}
-use Rattle.goal_files.specs.Ground.{IsAtomOf, is_same_atom, without_repeats}
-use Rattle.goal_files.specs.TypedReading.{with_atom, IsGoalOf}
-use Rattle.goal_files.proofs.NameLemmas.{and-true_both}
+use Rattle.type_check.specs.Values.{PlainGroundAtom, PlainTyped, is_same_atom}
+use Rattle.goal_files.specs.Ground.{IsAtomOf, without_repeats}
+use Rattle.goal_files.specs.LineReading.{with_atom, IsGoalOf}
 
 -- ---- keys in the place of atoms
 
@@ -33,6 +32,10 @@ module _ {K : Type 0} (view : K → PlainGroundAtom) (eq : K → K → Bool) (ag
       by_test false false e = map_push view old k
 
 -- ---- atoms that are the same
+
+and-true_both : (a b : Bool) → (a && b) ≡ true → (a ≡ true) × (b ≡ true)
+and-true_both true b e = (refl, e)
+and-true_both false b e = absurd (false≢true e)
 
 same_is : (a b : PlainGroundAtom) → is_same_atom a b ≡ true → a ≡ b
 same_is a b e =

@@ -5,17 +5,16 @@ use Rattle.std.specs.Result.{IfOk, IsOkAnd, IfErr}
 use Rattle.pddl_reader.specs.Sections.{Pairwise}
 use Rattle.type_check.specs.Values.{PlainTyped, PlainGroundAtom}
 use Rattle.type_check.specs.Typing.{IsTypedTask}
-use Rattle.goal_files.specs.Goals.{HasNoAtoms}
+use Rattle.goal_files.specs.Goals.{HasNoAtoms, SpellsGoal, SpellsGoals, HasUnknownAtom, IsGoalFault}
 use Rattle.goal_files.specs.Ground.{IsAtomOf, without_repeats}
-use Rattle.goal_files.specs.TypedLines.{SpellLines}
-use Rattle.goal_files.specs.TypedGoals.{SpellsGoal, SpellsGoals, HasUnknownAtom, IsGoalFault}
-use Rattle.goal_files.specs.TypedReading.{kept_lines, StopsBy, IsGoalLineFault}
+use Rattle.goal_files.specs.SpelledLines.{SpellLines}
+use Rattle.goal_files.specs.LineReading.{kept_lines, StopsBy, IsGoalLineFault}
 use Rattle.goal_files.specs.declared.faults.GoalFault.{GoalFault}
 use Rattle.goal_files.specs.declared.faults.GoalFault.TheVariants.{Shape, UnknownAtom, NoGoal, TooManyGoals, OutOfMemory}
 use Rattle.goal_files.proofs.GroundLaws.{one_atom}
 use Rattle.goal_files.proofs.Readings.{only_atoms}
-use Rattle.goal_files.proofs.TypedLines.{first_bad}
-use Rattle.goal_files.proofs.TypedAnswers.{same_values, SpellsNone, same_number, not_both, none_bad, answered_exactly, refused_exactly}
+use Rattle.goal_files.proofs.LineLaws.{first_bad}
+use Rattle.goal_files.proofs.LineAnswers.{same_values, SpellsNone, same_number, not_both, none_bad, answered_exactly, refused_exactly}
 
 abbrev Goals : Type 0
 Goals = List (List PlainGroundAtom)

@@ -9,9 +9,10 @@ use Rattle.grd_base.specs.Rising.{IsRisingBy}
 use Rattle.type_check.specs.Values.{PlainTypedObject, PlainTypedPredicate, PlainTypedSchema, PlainGroundAtom, PlainGroundName, PlainTyped}
 use Rattle.type_check.specs.Typing.{IsTypedTask}
 use Rattle.goal_files.specs.Ground.{IsNamed, AreArguments, IsAtomOf, IsActionOf}
-use Rattle.goal_files.specs.TypedReading.{AreNumbered, IsOnly, IsOnlyPredicate, IsOnlySchema, IsIndexed, predicate_texts, schema_texts, object_texts}
+use Rattle.type_check.specs.Numbered.{AreNumbered, predicate_texts, schema_texts, object_texts}
+use Rattle.goal_files.specs.LineReading.{IsOnly, IsOnlyPredicate, IsOnlySchema, IsIndexed}
 use Rattle.goal_files.proofs.NumberedNames.{one_place}
-use Rattle.goal_files.proofs.TypedTasks.{predicates_numbered, schemas_numbered, objects_numbered, predicate_places, schema_places}
+use Rattle.type_check.proofs.TypedTasks.{predicates_numbered, schemas_numbered, objects_numbered, predicate_places, schema_places}
 
 -- ---- what stands at the place of a name
 

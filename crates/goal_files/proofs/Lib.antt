@@ -1,22 +1,15 @@
-pub mod NameLemmas
 pub mod Cuts
 pub mod Marks
 pub mod Readings
 pub mod Skips
-pub mod Declared
-pub mod PlainAtoms
-pub mod LineGoals
-pub mod OneAnswer
 pub mod Mapped
 pub mod NumberedNames
 pub mod Places
-mod DeclaredCounts
-pub mod TypedTasks
-pub mod TypedLines
+pub mod LineLaws
 pub mod TextParts
 pub mod LineFaults
 pub mod AtomSets
 pub mod GroundLaws
-pub mod TypedAnswers
+pub mod LineAnswers
 pub mod GoalAnswers
 pub mod ObservationAnswers

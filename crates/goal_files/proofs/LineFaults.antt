@@ -3,9 +3,8 @@ use Rattle.std.proofs.Common.{◌≡◌, ℕ, List, [], ◌∷◌, subst}
 use Rattle.pddl_reader.specs.Sections.{Pairwise}
 use Rattle.type_check.specs.Values.{PlainTyped, PlainGroundAtom, PlainGroundName}
 use Rattle.goal_files.specs.Lines.{IsGoalLine}
-use Rattle.goal_files.specs.Goals.{HasNoAtoms}
+use Rattle.goal_files.specs.Goals.{HasNoAtoms, HasUnknownAtom}
 use Rattle.goal_files.specs.Ground.{IsAtomOf, IsActionOf}
-use Rattle.goal_files.specs.TypedGoals.{HasUnknownAtom}
 use Rattle.goal_files.specs.Observations.{HasNoList, HasUnknownAction}
 use Rattle.goal_files.proofs.Readings.{only_atoms}
 

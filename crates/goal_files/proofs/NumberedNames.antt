@@ -11,7 +11,7 @@ use Rattle.std.proofs.lemmas.List.Folds.{list_any_at, Any-from_list_any}
 use Rattle.std.proofs.lemmas.List.Quantifiers.{position-Some}
 use Rattle.std.proofs.lemmas.Option.{slice_get-get_or, slice_get_within, get_or_from_slice_get}
 use Rattle.std.proofs.lemmas.Slice.Eq.{bytes_eq-Decides}
-use Rattle.goal_files.specs.TypedReading.{AreNumbered}
+use Rattle.type_check.specs.Numbered.{AreNumbered}
 
 abbrev Keys : Type 0
 Keys = List (Bor (List ℕ))

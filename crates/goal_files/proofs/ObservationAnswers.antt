@@ -6,15 +6,15 @@ use Rattle.std.specs.Result.{IfOk, IsOkAnd, IfErr}
 use Rattle.type_check.specs.Values.{PlainTyped, PlainGroundName}
 use Rattle.type_check.specs.Typing.{IsTypedTask}
 use Rattle.goal_files.specs.Ground.{IsActionOf}
-use Rattle.goal_files.specs.TypedLines.{SpellLines}
+use Rattle.goal_files.specs.SpelledLines.{SpellLines}
 use Rattle.goal_files.specs.Observations.{SpellsAction, SpellsObservations, HasNoList, HasUnknownAction, IsObsFault}
-use Rattle.goal_files.specs.TypedReading.{kept_lines, StopsBy, IsObsLineFault}
+use Rattle.goal_files.specs.LineReading.{kept_lines, StopsBy, IsObsLineFault}
 use Rattle.goal_files.specs.declared.faults.ObsFault.{ObsFault}
 use Rattle.goal_files.specs.declared.faults.ObsFault.TheVariants.{Shape, UnknownAction, TooManyObservations, OutOfMemory}
 use Rattle.goal_files.proofs.GroundLaws.{one_action}
 use Rattle.goal_files.proofs.LineFaults.{one_list}
-use Rattle.goal_files.proofs.TypedLines.{first_bad}
-use Rattle.goal_files.proofs.TypedAnswers.{same_values, SpellsNone, same_number, not_both, none_bad, answered_exactly, refused_exactly}
+use Rattle.goal_files.proofs.LineLaws.{first_bad}
+use Rattle.goal_files.proofs.LineAnswers.{same_values, SpellsNone, same_number, not_both, none_bad, answered_exactly, refused_exactly}
 
 abbrev Actions : Type 0
 Actions = List PlainGroundName

@@ -7,8 +7,8 @@ use Rattle.std.proofs.lemmas.Iterator.{YieldsList}
 use Rattle.std.proofs.lemmas.List.{length-map, map_push}
 use Rattle.std.proofs.lemmas.List.Elements.{filter-append}
 use Rattle.goal_files.specs.Lines.{is_skipped}
-use Rattle.goal_files.specs.TypedReading.{PlainLine, numbered, kept_lines}
-use Rattle.goal_files.proofs.TypedLines.{Lines, is_kept, kept_from, numbered-push, few_parts}
+use Rattle.goal_files.specs.LineReading.{PlainLine, numbered, kept_lines}
+use Rattle.goal_files.proofs.LineLaws.{Lines, is_kept, kept_from, numbered-push, few_parts}
 
 abbrev kept_of : Lines → List PlainLine
 kept_of lines = kept_from 1 lines

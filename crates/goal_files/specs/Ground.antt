@@ -1,7 +1,6 @@
 -- Ground atoms and ground actions by the names of their predicate or schema and of their objects.
-use Rattle.std.specs.Prelude.{◌≡◌, ℕ, Bool, not, ◌==◌, ◌&&◌, List, [], ◌∷◌, filter, Contains, Some, slice_get}
-use Rattle.std.specs.Str.{bytes_eq}
-use Rattle.type_check.specs.Values.{PlainTyped, PlainTypedObject, PlainTypedPredicate, PlainTypedSchema, PlainGroundAtom, PlainGroundName}
+use Rattle.std.specs.Prelude.{◌≡◌, ℕ, not, List, [], ◌∷◌, filter, Contains, Some, slice_get}
+use Rattle.type_check.specs.Values.{PlainTyped, PlainTypedObject, PlainTypedPredicate, PlainTypedSchema, PlainGroundAtom, PlainGroundName, is_same_atom}
 
 -- the object with this number has the name
 pub record IsNamed (t : PlainTyped) (name : List ℕ) (number : ℕ) : Type 0 where
@@ -31,9 +30,6 @@ pub record IsActionOf (t : PlainTyped) (names : List (List ℕ)) (n : PlainGroun
   pub whole : names ≡ schema.name.text ∷ arguments
   pub there : slice_get t.schemas n.schema ≡ Some schema
   pub fit : AreArguments t arguments schema.places n.objects
-
-abbrev pub is_same_atom : PlainGroundAtom → PlainGroundAtom → Bool
-is_same_atom a b = a.predicate == b.predicate && bytes_eq a.objects b.objects
 
 -- each atom once, at its first place
 abbrev pub without_repeats : List PlainGroundAtom → List PlainGroundAtom

@@ -1,9 +1,7 @@
-pub mod Names
 pub mod Lines
 pub mod Goals
 pub mod Reading
 pub mod Ground
-pub mod TypedLines
-pub mod TypedGoals
+pub mod SpelledLines
 pub mod Observations
-pub mod TypedReading
+pub mod LineReading

@@ -1,5 +1,5 @@
--- When a text spells goals: one goal a line, one or more atoms in it, by their names.
-use Rattle.std.specs.Prelude.{◌≡◌, ◌≢◌, ℕ, ◌<◌, Bool, true, not, ◌==◌, ◌||◌, if◌then◌else◌, IsTrue, List, [], ◌∷◌, ◌++◌, length, map, filter}
+-- The lines of a text, and the atoms that a line spells, by their names.
+use Rattle.std.specs.Prelude.{◌≡◌, ◌≢◌, ℕ, ◌<◌, Bool, true, ◌==◌, ◌||◌, if◌then◌else◌, IsTrue, List, [], ◌∷◌, ◌++◌, length, map}
 use Rattle.std.specs.List.{AllByRecursion, flat_map, slice_split}
 use Rattle.std.specs.Char.{is_ascii_alphanumeric}
 use Rattle.std.specs.Str.{str_to_ascii_lowercase}
@@ -88,13 +88,3 @@ pub record IsGoalLine (line : List ℕ) (atoms : List (List (List ℕ))) : Type 
   pub marks : marks_of pieces ≡ flat_map atom_marks atoms
   pub some : 0 < length atoms
   pub each : AllByRecursion IsAtom atoms
-
--- line by line
-abbrev pub AreGoalLines : List (List ℕ) → List (List (List (List ℕ))) → Type 0
-AreGoalLines [] [] = Unit {0}
-AreGoalLines (line ∷ lines) (atoms ∷ goals) = IsGoalLine line atoms × AreGoalLines lines goals
-AreGoalLines lines goals = ⊥
-
--- the text spells these goals, in the order of the lines that are not skipped
-abbrev pub IsGoalsText : List ℕ → List (List (List (List ℕ))) → Type 0
-IsGoalsText text goals = AreGoalLines (filter (λ line. not (is_skipped line)) (lines_of text)) goals

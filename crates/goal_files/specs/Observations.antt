@@ -4,7 +4,7 @@ use Rattle.std.specs.Prelude.{◌≡◌, ℕ, ◌<◌, ◌≤◌, List, [], ◌�
 use Rattle.type_check.specs.Values.{PlainTyped, PlainGroundName}
 use Rattle.goal_files.specs.Lines.{IsGoalLine}
 use Rattle.goal_files.specs.Ground.{IsActionOf}
-use Rattle.goal_files.specs.TypedLines.{SpellLines, IsFirstBad}
+use Rattle.goal_files.specs.SpelledLines.{SpellLines, IsFirstBad}
 use Rattle.goal_files.specs.declared.faults.ObsFault.{ObsFault}
 use Rattle.goal_files.specs.declared.faults.ObsFault.TheVariants.{Shape, UnknownAction, TooManyObservations, OutOfMemory}
 

@@ -1,16 +1,12 @@
--- The parts of a goals file as they are read, from the front.
-use Rattle.std.specs.Prelude.{◌≡◌, ℕ, ◌<◌, Bool, false, not, ◌==◌, List, [], ◌∷◌, ◌++◌, take, drop, map, filter, All, Any, string_bytes, true, Option, Some, None, if◌then◌else◌}
+-- The atoms of a line as they are read, from the front.
+use Rattle.std.specs.Prelude.{ℕ, ◌<◌, Bool, false, not, ◌==◌, List, [], ◌∷◌, ◌++◌, take, drop, map, All, string_bytes, Option, Some, None, if◌then◌else◌}
 use Rattle.std.specs.List.{prefix_len}
-use Rattle.std.specs.Option.{option_map, option_and_then, option_to_list}
+use Rattle.std.specs.Option.{option_map, option_and_then}
 use Rattle.std.specs.Str.{str_to_ascii_lowercase}
-use Rattle.pddl_reader.specs.Values.{PlainDomain}
-use Rattle.goal_files.specs.Lines.{is_blank, is_name_byte, is_skipped, Mark, Opens, Closes, Names, AreGoalLines}
-use Rattle.goal_files.specs.Goals.{plain_atoms, AreDeclared, SpellsGoal, HasNoAtoms, HasUnknownAtom}
+use Rattle.goal_files.specs.Lines.{is_blank, is_name_byte, Mark, Opens, Closes, Names}
 use Rattle.goal_files.specs.declared.pieces.Piece.{Piece}
 use Rattle.goal_files.specs.declared.pieces.Piece.TheVariants.{Blank, Open, Close, Run}
 use Rattle.goal_files.specs.declared.atoms.Reading.{Reading}
-use Rattle.goal_files.specs.declared.faults.GoalFault.{GoalFault}
-use Rattle.goal_files.specs.declared.faults.GoalFault.TheVariants.{Shape, UnknownAtom, NoGoal, TooManyGoals, OutOfMemory}
 
 -- what stands behind the blanks at the front
 abbrev pub past_blanks : List ℕ → List ℕ
@@ -84,33 +80,3 @@ abbrev pub whole_atoms : List (List (List ℕ)) → Option (List (List ℕ)) →
 whole_atoms [] names = None
 whole_atoms (atom ∷ atoms) None = Some (atom ∷ atoms)
 whole_atoms (atom ∷ atoms) (Some names) = None
-
--- the atom has this predicate of the domain, which has no parameters, and no objects
-abbrev pub IsPlainAtom : PlainDomain → List (List ℕ) → List ℕ → Type 0
-IsPlainAtom d atom name = (atom ≡ name ∷ []) × Any (λ q. (q.name.text ≡ name) × (q.parameters ≡ [])) d.predicates
-
--- the atoms are those of this goal
-abbrev pub ArePlainAtoms : PlainDomain → List (List (List ℕ)) → List (List ℕ) → Type 0
-ArePlainAtoms d atoms goal = (plain_atoms goal ≡ atoms) × AreDeclared d goal
-
--- the goal of a line, or none where it is skipped
-abbrev pub IsLineGoal : PlainDomain → List ℕ → Option (List (List ℕ)) → Type 0
-IsLineGoal d line None = is_skipped line ≡ true
-IsLineGoal d line (Some goal) = (is_skipped line ≡ false) × SpellsGoal d line goal
-
--- the line with this number is at fault
-abbrev pub IsLineFault : PlainDomain → List ℕ → ℕ → GoalFault → Type 0
-IsLineFault d line number (Shape at) = (at ≡ number) × (is_skipped line ≡ false) × HasNoAtoms line
-IsLineFault d line number (UnknownAtom at) = (at ≡ number) × (is_skipped line ≡ false) × HasUnknownAtom d line
-IsLineFault d line number NoGoal = ⊥
-IsLineFault d line number (TooManyGoals count) = ⊥
-IsLineFault d line number OutOfMemory = ⊥
-
--- the lines have these goals
-pub record HaveGoals (d : PlainDomain) (lines : List (List ℕ)) (goals : List (List (List ℕ))) : Type 0 where
-  pub spelled : AreGoalLines (filter (λ line. not (is_skipped line)) lines) (map plain_atoms goals)
-  pub declared : All (AreDeclared d) goals
-
--- with one line more
-abbrev pub AddsLine : PlainDomain → List ℕ → List (List (List ℕ)) → List (List (List ℕ)) → Type 0
-AddsLine d line old new = (found : Option (List (List ℕ))) × IsLineGoal d line found × (new ≡ old ++ option_to_list found)

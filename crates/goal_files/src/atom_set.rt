@@ -1,5 +1,5 @@
 ghost use Rattle.std.specs.Prelude.{◌≡◌, [], OnOk, IfOk};
-ghost use Rattle.goal_files.specs.TypedReading.{with_atom};
+ghost use Rattle.goal_files.specs.LineReading.{with_atom};
 
 use indexmap::IndexSet;
 use std::alloc::{AllocError, Global};
@@ -22,7 +22,7 @@ pub(crate) struct AtomSet {
 impl Model for AtomSet {
     ghost use Rattle.std.specs.Prelude.{List, map};
     ghost use Rattle.type_check.specs.Values.{PlainGroundAtom};
-    ghost use Rattle.goal_files.specs.TypedReading.{key_atom};
+    ghost use Rattle.goal_files.specs.LineReading.{key_atom};
 
     ghost Value = { List PlainGroundAtom };
 

@@ -1,9 +1,10 @@
-ghost use Rattle.std.specs.Prelude.{◌≡◌, ◌↔◌, ℕ, List, [], All, Contains, map, string_bytes, IsTrue, IfOk, MatchOption, Some, slice_get};
+ghost use Rattle.std.specs.Prelude.{◌≡◌, ◌↔◌, ℕ, List, All, Contains, map, string_bytes, IsTrue, IfOk, MatchOption, Some, slice_get};
 ghost use Rattle.grd_base.specs.Rising.{IsRisingBy};
 ghost use Rattle.type_check.specs.Values.{PlainGroundAtom, PlainGroundName};
 ghost use Rattle.type_check.specs.Typing.{IsTypedTask};
 ghost use Rattle.goal_files.specs.Ground.{IsNamed, AreArguments, IsAtomOf, IsActionOf};
-ghost use Rattle.goal_files.specs.TypedReading.{AreNumbered, IsOnlyPredicate, IsOnlySchema, predicate_texts, schema_texts};
+ghost use Rattle.type_check.specs.Numbered.{AreNumbered, predicate_texts, schema_texts};
+ghost use Rattle.goal_files.specs.LineReading.{IsOnlyPredicate, IsOnlySchema};
 
 use crate::names::Names;
 use std::alloc::{AllocError, Global};
@@ -21,7 +22,7 @@ pub(crate) struct Index<'a> {
 
 impl<'a> Model for Index<'a> {
     ghost use Rattle.type_check.specs.Values.{PlainTyped};
-    ghost use Rattle.goal_files.specs.TypedReading.{IsIndexed};
+    ghost use Rattle.goal_files.specs.LineReading.{IsIndexed};
 
     ghost Value = { PlainTyped };
 

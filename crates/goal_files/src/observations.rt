@@ -1,10 +1,10 @@
-ghost use Rattle.std.specs.Prelude.{◌≡◌, ◌⊎◌, ℕ, ◌^◌, ◌≤◌, List, [], ◌∷◌, length, map, string_bytes, Ok, Err, IfOk, IfErr, IsOkAnd, MatchOption};
+ghost use Rattle.std.specs.Prelude.{◌≡◌, ◌⊎◌, ◌^◌, ◌≤◌, List, [], ◌∷◌, length, map, string_bytes, Ok, Err, IfOk, IfErr, IsOkAnd, MatchOption};
 ghost use Rattle.type_check.specs.Values.{PlainGroundName};
 ghost use Rattle.type_check.specs.Typing.{IsTypedTask};
 ghost use Rattle.goal_files.specs.Lines.{IsGoalLine};
-ghost use Rattle.goal_files.specs.TypedLines.{SpellLines};
+ghost use Rattle.goal_files.specs.SpelledLines.{SpellLines};
 ghost use Rattle.goal_files.specs.Observations.{SpellsAction, SpellsObservations, HasNoList, IsObsFault};
-ghost use Rattle.goal_files.specs.TypedReading.{SpellEach, StopsBy, IsObsLineFault};
+ghost use Rattle.goal_files.specs.LineReading.{SpellEach, StopsBy, IsObsLineFault};
 
 use crate::atoms::read_atoms;
 use crate::faults::ObsFault;

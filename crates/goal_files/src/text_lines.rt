@@ -1,5 +1,5 @@
 ghost use Rattle.std.specs.Prelude.{◌≡◌, ◌^◌, ◌≤◌, length, IfOk};
-ghost use Rattle.goal_files.specs.TypedReading.{kept_lines};
+ghost use Rattle.goal_files.specs.LineReading.{kept_lines};
 
 use crate::pieces::{is_skipped, strip_carriage_return};
 use std::alloc::{AllocError, Global};
@@ -15,7 +15,7 @@ pub(crate) struct Line<'a> {
 }
 
 impl<'a> Model for Line<'a> {
-    ghost use Rattle.goal_files.specs.TypedReading.{PlainLine};
+    ghost use Rattle.goal_files.specs.LineReading.{PlainLine};
 
     ghost Value = { PlainLine };
 

@@ -1,26 +1,31 @@
 -- An answer comes where its causes are excluded.
 use Rattle.std.proofs.Common.{◌≡◌, ℕ, ◌^◌, ◌<◌, ◌≤◌, List, length, Bool, Some, refl, sym, subst, inl, inr, arith}
 use Rattle.std.proofs.lemmas.List.{length-map}
-use Rattle.std.specs.Str.{bytes_eq}
+use Rattle.grd_base.specs.declared.ids.GoalId.{GoalId}
 use Rattle.grd_base.specs.declared.roles.FileRole.TheVariants.{Domain, Problem, Goals, Observations, Certificate}
 use Rattle.grd_io.specs.Bytes.{Told, IsLongerFile}
 use Rattle.grd_io.specs.Causes.{Rose}
-use Rattle.strips_model.specs.Reached.{MoreThan, IsReachedFor}
 use Rattle.strips_model.specs.Worlds.{goal_of}
+use Rattle.strips_model.specs.Reached.{MoreThan, IsReachedFor}
 use Rattle.pddl_reader.specs.Values.{PlainDomain, PlainProblem}
 use Rattle.pddl_reader.specs.Spelling.{IsDomainText, IsProblemText}
-use Rattle.goal_files.specs.Goals.{SpellsGoals}
+use Rattle.type_check.specs.Values.{PlainTyped, PlainGroundAtom, is_same_atom}
+use Rattle.type_check.specs.Rules.{IsWellTyped}
+use Rattle.type_check.specs.Typing.{IsTyped}
+use Rattle.type_check.specs.declared.faults.TypeFault.{TypeFault}
+use Rattle.goal_files.specs.declared.faults.GoalFault.{GoalFault}
+use Rattle.ground_all.specs.Grounding.{world_of, ground_task}
+use Rattle.ground_all.specs.declared.faults.GroundFault.{GroundFault}
+use Rattle.ground_all.specs.declared.faults.GroundFault.TheVariants.{TooManyAtoms, TooManyActions, OutOfMemory as CountMemory}
 use Rattle.grd_program.specs.declared.status.Status.{Status}
 use Rattle.grd_program.specs.declared.status.Status.TheVariants.{Done, Refused, Usage, Limit, ReadFailed, WriteFailed, OutOfMemory}
-use Rattle.grd_program.specs.declared.status.Refusal.TheVariants.{NotYet, TooLong, Pddl, Goals as OfGoals}
+use Rattle.grd_program.specs.declared.status.Refusal.TheVariants.{TooLong, Pddl, Typing, Goals as OfGoals, Count}
 use Rattle.grd_program.specs.declared.status.LimitFault.TheVariants.{States}
 use Rattle.grd_program.specs.declared.command.Command.{Command}
 use Rattle.grd_program.specs.declared.command.Command.TheVariants.{Cost, Wcd, Show}
 use Rattle.grd_program.specs.Commands.{PlainJob, Reads}
-use Rattle.grd_program.specs.Forms.{IsFirstForm, FitsDomain}
-use Rattle.grd_program.specs.Worlds.{world_of, spelled_task}
-use Rattle.grd_program.specs.Causes.{HasText, FailsDomain, FailsProblem, SpellsOnlyGoals, HasOnlyFault}
-use Rattle.grd_program.specs.Runs.{SpellsOnly, TakesTexts, ReadsOnly, HasTexts, HasNoFault, CanReport, CanAnswer, HasTextsCause, HasFilesCause, HasCommandCause, HasCause, MayBecome, MeetsLimit, IsComplete}
+use Rattle.grd_program.specs.Causes.{HasText, FailsDomain, FailsProblem, HasFew, HasCountCause, SpellsOnlyGoals, HasOnlyFault}
+use Rattle.grd_program.specs.Runs.{SpellsOnly, TakesTexts, TakesTyped, TakesGoals, ReadsOnly, HasTexts, HasNoFault, CanReport, CanAnswer, HasTextsCause, HasTypedCause, HasFilesCause, HasCommandCause, HasCause, MayBecome, MeetsLimit, IsComplete}
 
 -- the value that a file spells is the one that was taken
 taken : {V : Type 0} (Spells : List ℕ → V → Type 0) (told : Told) (text : List ℕ) (x y : V)
@@ -35,8 +40,15 @@ short_file told text limit there short is longer =
     omega (arith, is, short, more)
 
 -- as many goals of a task as of its world
-goals_many : (d : PlainDomain) (p : PlainProblem) (goals : List (List (List ℕ))) → length (spelled_task d p goals).goals ≡ length goals
-goals_many d p goals = length-map goals (goal_of bytes_eq (world_of d p goals))
+goals_many : (typed : PlainTyped) (goals : List (List PlainGroundAtom)) → length (ground_task typed goals).goals ≡ length goals
+unfolding ground_task
+goals_many typed goals = length-map goals (goal_of is_same_atom (world_of typed goals))
+
+-- a world that is small enough is not too large
+no_count : (typed : PlainTyped) (fault : GroundFault) → HasFew typed → HasCountCause typed (Refused (Count fault)) → ⊥
+no_count typed (TooManyAtoms count) few h = omega (arith, few.atoms, h.0, h.1)
+no_count typed (TooManyActions count) few h = omega (arith, few.actions, h.1, h.2)
+no_count typed CountMemory few h = h
 
 module _ (told : List ℕ → Told) (before now : List ℕ → Bool → ℕ) (job : PlainJob) (ob on : ℕ) where
   -- the domain and the problem that the files spell are those that were taken
@@ -51,7 +63,6 @@ module _ (told : List ℕ → Told) (before now : List ℕ → Bool → ℕ) (jo
       → (s : Status) → HasTextsCause told before now job s → s ≡ OutOfMemory
   texts_complete d p w f Done h = absurd h
   texts_complete d p w f (Usage fault) h = absurd h
-  texts_complete d p w f (Refused (NotYet role)) h = absurd h
   texts_complete d p w f (Refused (TooLong Domain limit)) h =
       absurd (short_file (told job.domain) w.domain_bytes limit w.domain_there w.domain_short h.0 h.2)
   texts_complete d p w f (Refused (TooLong Problem limit)) h =
@@ -66,7 +77,9 @@ module _ (told : List ℕ → Told) (before now : List ℕ → Bool → ℕ) (jo
   texts_complete d p w f (Refused (Pddl Goals fault)) h = absurd h
   texts_complete d p w f (Refused (Pddl Observations fault)) h = absurd h
   texts_complete d p w f (Refused (Pddl Certificate fault)) h = absurd h
+  texts_complete d p w f (Refused (Typing fault)) h = absurd h
   texts_complete d p w f (Refused (OfGoals fault)) h = absurd h
+  texts_complete d p w f (Refused (Count fault)) h = absurd h
   texts_complete d p w f (Limit fault) h = absurd h
   texts_complete d p w f (ReadFailed Domain) h = absurd (f.reads_domain h.rose)
   texts_complete d p w f (ReadFailed Problem) h = absurd (f.reads_problem h.1.rose)
@@ -77,54 +90,69 @@ module _ (told : List ℕ → Told) (before now : List ℕ → Bool → ℕ) (jo
   texts_complete d p w f OutOfMemory h = refl
 
   as_texts : (can : CanReport told before now job ob on) (s : Status) → HasTextsCause told before now job s → s ≡ OutOfMemory
-  as_texts can = texts_complete can.domain can.problem can.world.texts can.no_fault
+  as_texts can = texts_complete can.world.domain can.world.problem can.world.texts can.no_fault
 
-  -- nor is one of the three files, where a report can be made
+  -- nor is their typing, where a report can be made
+  typing_complete : (can : CanReport told before now job ob on) (fault : TypeFault) → HasTypedCause told before now job (Refused (Typing fault)) → ⊥
+  typing_complete can fault h =
+      h.4.not_typed (subst (λ q. IsWellTyped h.1 q) (same_problem can.world.domain h.1 can.world.problem h.2 can.world.texts h.3)
+      (subst (λ d. IsWellTyped d can.world.problem) (same_domain can.world.domain h.1 can.world.problem h.2 can.world.texts h.3) can.world.are_typed.well_typed))
+
+  -- what they make is what was taken
+  same_typed : (can : CanReport told before now job ob on) (typed : PlainTyped) → TakesTyped told job typed → typed ≡ can.typed
+  same_typed can typed takes =
+      sym (takes.only can.typed
+      (subst (λ q. IsTyped takes.domain q can.typed) (same_problem can.world.domain takes.domain can.world.problem takes.problem can.world.texts takes.texts)
+      (subst (λ d. IsTyped d can.world.problem can.typed) (same_domain can.world.domain takes.domain can.world.problem takes.problem can.world.texts takes.texts)
+      can.world.are_typed.made)))
+
+  -- and so are the goals
+  same_goals : (can : CanReport told before now job ob on) (goals : List (List PlainGroundAtom)) → TakesGoals told job.goals can.typed goals → goals ≡ can.goals
+  same_goals can goals takes =
+      sym ((subst (λ t. HasText t (λ text. SpellsOnlyGoals can.typed text goals)) can.world.goals_there takes).1.only can.goals can.world.gives)
+
+  goals_complete : (can : CanReport told before now job ob on) (fault : GoalFault) → HasText (told job.goals) (λ text. HasOnlyFault can.typed text fault) → ⊥
+  goals_complete can fault h =
+      (subst (λ t. HasText t (λ text. HasOnlyFault can.typed text fault)) can.world.goals_there h).1.no_goals can.goals can.world.gives
+
+  limit_complete : (can : CanReport told before now job ob on) (g : GoalId) (limit : ℕ) → MeetsLimit job.limits.states (ground_task can.typed can.goals) g limit → ⊥
+  limit_complete can g limit meets =
+      can.few_states g (omega (arith, meets.0, goals_many can.typed can.goals))
+      (subst (λ n. MoreThan n (IsReachedFor (ground_task can.typed can.goals) g)) meets.1 meets.2)
+
+  -- nor is one of the three files, nor the world that they spell
   files_complete : CanReport told before now job ob on → (s : Status) → HasFilesCause told before now job s → s ≡ OutOfMemory
-  files_complete can Done h = as_texts can Done h
-  files_complete can (Usage fault) h = as_texts can (Usage fault) h
-  files_complete can (Refused (NotYet Domain)) h =
-      absurd (h.4 (subst IsFirstForm (same_domain can.domain h.1 can.problem h.2 can.world.texts h.3) can.world.form))
-  files_complete can (Refused (NotYet Problem)) h =
-      let same : can.domain ≡ h.1 = same_domain can.domain h.1 can.problem h.2 can.world.texts h.3 in
-      let also : can.problem ≡ h.2 = same_problem can.domain h.1 can.problem h.2 can.world.texts h.3 in
-      absurd (h.5 (subst (λ e. FitsDomain e h.2) same (subst (FitsDomain can.domain) also can.world.fits)))
-  files_complete can (Refused (NotYet Goals)) h = as_texts can (Refused (NotYet Goals)) h
-  files_complete can (Refused (NotYet Observations)) h = as_texts can (Refused (NotYet Observations)) h
-  files_complete can (Refused (NotYet Certificate)) h = as_texts can (Refused (NotYet Certificate)) h
+  files_complete can Done h = absurd h
+  files_complete can (Usage fault) h = absurd h
   files_complete can (Refused (TooLong Domain limit)) h = as_texts can (Refused (TooLong Domain limit)) h
   files_complete can (Refused (TooLong Problem limit)) h = as_texts can (Refused (TooLong Problem limit)) h
   files_complete can (Refused (TooLong Goals limit)) h =
-      absurd (short_file (told job.goals) can.world.goals_bytes limit can.world.goals_there can.world.goals_short h.0 h.5)
-  files_complete can (Refused (TooLong Observations limit)) h = as_texts can (Refused (TooLong Observations limit)) h
-  files_complete can (Refused (TooLong Certificate limit)) h = as_texts can (Refused (TooLong Certificate limit)) h
+      absurd (short_file (told job.goals) can.world.goals_bytes limit can.world.goals_there can.world.goals_short h.0 h.4)
+  files_complete can (Refused (TooLong Observations limit)) h = absurd h
+  files_complete can (Refused (TooLong Certificate limit)) h = absurd h
   files_complete can (Refused (Pddl Domain fault)) h = as_texts can (Refused (Pddl Domain fault)) h
   files_complete can (Refused (Pddl Problem fault)) h = as_texts can (Refused (Pddl Problem fault)) h
-  files_complete can (Refused (Pddl Goals fault)) h = as_texts can (Refused (Pddl Goals fault)) h
-  files_complete can (Refused (Pddl Observations fault)) h = as_texts can (Refused (Pddl Observations fault)) h
-  files_complete can (Refused (Pddl Certificate fault)) h = as_texts can (Refused (Pddl Certificate fault)) h
+  files_complete can (Refused (Pddl Goals fault)) h = absurd h
+  files_complete can (Refused (Pddl Observations fault)) h = absurd h
+  files_complete can (Refused (Pddl Certificate fault)) h = absurd h
+  files_complete can (Refused (Typing fault)) h = absurd (typing_complete can fault h)
   files_complete can (Refused (OfGoals fault)) h =
-      let same : can.domain ≡ h.2 = same_domain can.domain h.2 can.problem h.3 can.world.texts h.4.texts in
-      let only : HasOnlyFault h.2 can.world.goals_bytes fault = (subst (λ t. HasText t (λ text. HasOnlyFault h.2 text fault)) can.world.goals_there h.5).1 in
-      absurd (only.no_goals can.goals (subst (λ e. SpellsGoals e can.world.goals_bytes can.goals) same can.world.gives))
+      absurd (goals_complete can fault (subst (λ t. HasText (told job.goals) (λ text. HasOnlyFault t text fault)) (same_typed can h.2 h.3) h.4))
+  files_complete can (Refused (Count fault)) h =
+      absurd (no_count can.typed fault can.few (subst (λ t. HasCountCause t (Refused (Count fault))) (same_typed can h.1 h.3.takes_typed) h.4))
   files_complete can (Limit (States g limit)) h =
-      let same : can.domain ≡ h.1 = same_domain can.domain h.1 can.problem h.2 can.world.texts h.4.world.texts in
-      let also : can.problem ≡ h.2 = same_problem can.domain h.1 can.problem h.2 can.world.texts h.4.world.texts in
-      let only : SpellsOnlyGoals h.1 can.world.goals_bytes h.3 = (subst (λ t. HasText t (λ text. SpellsOnlyGoals h.1 text h.3)) can.world.goals_there h.4.takes_goals).1 in
-      let all : can.goals ≡ h.3 = only.only can.goals (subst (λ e. SpellsGoals e can.world.goals_bytes can.goals) same can.world.gives) in
-      let meets : MeetsLimit job.limits.states (spelled_task can.domain can.problem can.goals) g limit =
-      subst (λ e. MeetsLimit job.limits.states (spelled_task e can.problem can.goals) g limit) (sym same)
-      (subst (λ q. MeetsLimit job.limits.states (spelled_task h.1 q can.goals) g limit) (sym also)
-      (subst (λ gs. MeetsLimit job.limits.states (spelled_task h.1 h.2 gs) g limit) (sym all) h.5)) in
-      absurd (can.few g (omega (arith, meets.0, goals_many can.domain can.problem can.goals))
-      (subst (λ n. MoreThan n (IsReachedFor (spelled_task can.domain can.problem can.goals) g)) meets.1 meets.2))
+      let same : h.1 ≡ can.typed = same_typed can h.1 h.3.takes_typed in
+      let all : h.2 ≡ can.goals = same_goals can h.2 (subst (λ t. TakesGoals told job.goals t h.2) same h.3.takes_goals) in
+      absurd (limit_complete can g limit
+      (subst (λ gs. MeetsLimit job.limits.states (ground_task can.typed gs) g limit) all
+      (subst (λ t. MeetsLimit job.limits.states (ground_task t h.2) g limit) same h.4.1)))
   files_complete can (ReadFailed Domain) h = as_texts can (ReadFailed Domain) h
   files_complete can (ReadFailed Problem) h = as_texts can (ReadFailed Problem) h
   files_complete can (ReadFailed Goals) h = absurd (can.reads_goals h.1.rose)
-  files_complete can (ReadFailed Observations) h = as_texts can (ReadFailed Observations) h
-  files_complete can (ReadFailed Certificate) h = as_texts can (ReadFailed Certificate) h
-  files_complete can (WriteFailed target) h = as_texts can (WriteFailed target) h
-  files_complete can OutOfMemory h = as_texts can OutOfMemory h
+  files_complete can (ReadFailed Observations) h = absurd h
+  files_complete can (ReadFailed Certificate) h = absurd h
+  files_complete can (WriteFailed target) h = absurd h
+  files_complete can OutOfMemory h = refl
 
   -- nor is any of its command's, where a command has all that it needs
   command_complete : (command : Command) → CanAnswer command told before now job ob on → (s : Status) → HasCommandCause command told before now job s → s ≡ OutOfMemory

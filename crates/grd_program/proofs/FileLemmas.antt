@@ -1,30 +1,36 @@
 -- What was read of a file, as a fact on what its shelf tells.
 use Rattle.std.proofs.Common.{◌≡◌, ℕ, ◌^◌, ◌≤◌, List, [], ◌++◌, length, Option, Some, None, sym, subst, refl, ap, ◌⊎◌, inl, inr, arith}
-use Rattle.std.specs.Prelude.{IsSomeAnd, IfSome, IfOk, OnOk, Result, Ok, Err}
+use Rattle.std.specs.Prelude.{IsSomeAnd, IfSome, IfOk, IsOk, IsOkAnd, Result, Ok, Err}
 use Rattle.std.specs.Option.{option_map_or}
 use Rattle.grd_io.specs.Bytes.{Told, IsWholeFile}
 use Rattle.pddl_reader.specs.Values.{PlainDomain, PlainProblem}
 use Rattle.pddl_reader.specs.Spelling.{IsDomainText, IsProblemText}
+use Rattle.type_check.specs.Values.{PlainTyped, PlainGroundAtom}
+use Rattle.type_check.specs.Rules.{IsWellTyped, IsTypeFault}
+use Rattle.type_check.specs.declared.faults.TypeFault.{TypeFault}
+use Rattle.type_check.specs.declared.faults.CheckTypeFault.{CheckTypeFault}
+use Rattle.type_check.specs.declared.faults.CheckTypeFault.TheVariants.{Typing as IsTyping, OutOfMemory as TypingMemory}
+use Rattle.goal_files.specs.declared.faults.GoalFault.{GoalFault}
+use Rattle.goal_files.specs.declared.faults.GoalFault.TheVariants.{Shape, UnknownAtom, NoGoal, TooManyGoals, OutOfMemory as GoalsMemory}
 use Rattle.grd_program.specs.declared.command.OptionName.TheVariants.{MaxStates}
 use Rattle.grd_program.specs.declared.status.UsageFault.{UsageFault}
 use Rattle.grd_program.specs.declared.words.WordsFault.{WordsFault}
 use Rattle.grd_program.specs.declared.words.WordsFault.TheVariants.{Usage, OutOfMemory as NoMemory}
 use Rattle.grd_program.specs.Commands.{PlainJob, Reads, GivesNumber, IsNumber, IsUsageFault}
 use Rattle.grd_base.specs.declared.ids.ActionId.{ActionId}
-use Rattle.strips_model.specs.Values.{PlainTask}
 use Rattle.strips_model.specs.Common.{AreRight}
+use Rattle.ground_all.specs.Grounding.{ground_task}
 use Rattle.grd_program.specs.declared.report.Question.{Question}
 use Rattle.grd_program.specs.declared.report.Question.TheVariants.{Wcd}
 use Rattle.pddl_print.specs.Canonical.{domain_text, problem_text}
-use Rattle.grd_program.specs.Worlds.{spelled_task}
 use Rattle.grd_program.specs.Reports.{action_names, IsWcdReport, IsReportOn}
 use Rattle.grd_base.specs.declared.roles.FileRole.{FileRole}
 use Rattle.pddl_reader.specs.declared.faults.PddlFault.{PddlFault}
 use Rattle.pddl_reader.specs.declared.faults.PddlFault.TheVariants.{Lex, Tree, Shape as PddlShape, Unsupported, DoubledSection, OutOfMemory as PddlMemory}
 use Rattle.grd_program.specs.declared.status.Status.{Status}
 use Rattle.grd_program.specs.declared.status.Status.TheVariants.{Refused, OutOfMemory}
-use Rattle.grd_program.specs.declared.status.Refusal.TheVariants.{Pddl}
-use Rattle.grd_program.specs.Causes.{HasText, SpellsOnlyGoals}
+use Rattle.grd_program.specs.declared.status.Refusal.TheVariants.{Pddl, Goals as OfGoals}
+use Rattle.grd_program.specs.Causes.{HasText, FailsTyping, SpellsOnlyGoals}
 use Rattle.grd_program.specs.Runs.{SpellsOnly, IsWorldReport, IsShownText, IsReportText, IsShowText, TakesTexts, TakesFiles, ReadsOnly, HasOnlyUsageFault}
 
 -- the text that was read has the property
@@ -35,12 +41,13 @@ has (Some file) bytes P whole short p =
     subst Q (sym whole) (short, p)
 
 -- the report over files that are taken
-pub report_text_is : (question : Question) (told : List ℕ → Told) (job : PlainJob) (d : PlainDomain) (p : PlainProblem) (goals : List (List (List ℕ))) (text : List ℕ)
-    → TakesFiles told job d p goals → IsReportOn question d p goals text → IsReportText question told job text
-report_text_is question told job d p goals text taken report =
-    each (told job.domain) (told job.problem) (told job.goals) taken.world.texts.takes_domain taken.world.texts.takes_problem taken.takes_goals
+pub report_text_is : (question : Question) (told : List ℕ → Told) (job : PlainJob) (typed : PlainTyped) (goals : List (List PlainGroundAtom)) (text : List ℕ)
+    → TakesFiles told job typed goals → IsReportOn question typed goals text → IsReportText question told job text
+report_text_is question told job typed goals text taken report =
+    each (told job.domain) (told job.problem) (told job.goals) taken.takes_typed.texts.takes_domain taken.takes_typed.texts.takes_problem taken.takes_goals
   where
-    each : (dt pt gt : Told) → HasText dt (SpellsOnly IsDomainText d) → HasText pt (SpellsOnly IsProblemText p) → HasText gt (λ t. SpellsOnlyGoals d t goals)
+    each : (dt pt gt : Told) → HasText dt (SpellsOnly IsDomainText taken.takes_typed.domain) → HasText pt (SpellsOnly IsProblemText taken.takes_typed.problem)
+        → HasText gt (λ t. SpellsOnlyGoals typed t goals)
         → IfSome dt (λ df. IfSome pt (λ pf. IfSome gt (λ gf. IsWorldReport question df pf gf text)))
     each None pt gt hd hp hg = tt
     each (Some df) None gt hd hp hg = tt
@@ -58,10 +65,16 @@ report_text_is question told job d p goals text taken report =
       domain_short = hd.0;
       problem_short = hp.0;
       goals_short = hg.0;
-      domain = d;
-      problem = p;
+      typed = typed;
       goals = goals;
-      spelled = record { domain = hd.1.0; problem = hp.1.0; form = taken.world.form; fits = taken.world.fits; gives = hg.1.spells };
+      spelled = record {
+        domain = taken.takes_typed.domain;
+        problem = taken.takes_typed.problem;
+        is_domain = hd.1.0;
+        is_problem = hp.1.0;
+        are_typed = taken.takes_typed.are_typed;
+        gives = hg.1.spells;
+      };
       report = report;
     }
 
@@ -94,10 +107,6 @@ pub ok_more : {T E : Type 0} (P Q : T → Type 0) (r : Result T E) → ((x : T) 
 ok_more P Q (Ok x) more p = more x p
 ok_more P Q (Err e) more p = tt
 
-pub on_ok : {T E : Type 0} (Q : Type 0) (r : Result T E) → Q → OnOk r Q
-on_ok Q (Ok x) q = q
-on_ok Q (Err e) q = tt
-
 -- a number of states that the words give is at least one
 pub some_states : (words : List (List ℕ)) (job : PlainJob) → Reads words job → 1 ≤ job.limits.states
 some_states words job reads = at_least job.limits.states reads.states
@@ -111,12 +120,12 @@ some_states words job reads = at_least job.limits.states reads.states
             omega (arith, number.least)
     at_least n (inr (none, is)) = omega arith
 
--- the report of 'wcd' over the world's task
-pub wcd_report_on : (question : Question) (d : PlainDomain) (p : PlainProblem) (goals : List (List (List ℕ))) (t : PlainTask) (found : List (Option (List ActionId))) (text : List ℕ)
-    → question ≡ Wcd → t ≡ spelled_task d p goals → AreRight t [] found → IsWcdReport t (action_names d) found text → IsReportOn question d p goals text
-wcd_report_on question d p goals t found text is same right report =
-    subst (λ k. IsReportOn k d p goals text) (sym is)
-    (found, subst (λ u. AreRight u [] found) same right, subst (λ u. IsWcdReport u (action_names d) found text) same report)
+-- the report of 'wcd' answers its question
+pub wcd_report_on : (question : Question) (typed : PlainTyped) (goals : List (List PlainGroundAtom)) (found : List (Option (List ActionId))) (text : List ℕ)
+    → question ≡ Wcd → AreRight (ground_task typed goals) [] found → IsWcdReport (ground_task typed goals) (action_names typed) found text
+    → IsReportOn question typed goals text
+wcd_report_on question typed goals found text is right report =
+    subst (λ k. IsReportOn k typed goals text) (sym is) (found, right, report)
 
 -- what a reading of words says by its clauses, where it answers a job or a fault
 module _ (words : List (List ℕ)) (r : Result PlainJob WordsFault)
@@ -152,32 +161,37 @@ module _ (words : List (List ℕ)) (r : Result PlainJob WordsFault)
       none job (inl e) = cc
       none job (inr e) = cc
 
--- what a reading of a domain or a problem says by its clauses, where it answers a value or a fault
-module _ {V : Type 0} (Spells : V → Type 0) (r : Result V PddlFault) (exactly : (x : V) → Spells x → (r ≡ Ok x) ⊎ (r ≡ Err PddlMemory)) where
+-- what a reading of a file says by its clauses, where it answers a value or a fault
+module _ {V E : Type 0} (Spells : V → Type 0) {memory : E} (r : Result V E) (exactly : (x : V) → Spells x → (r ≡ Ok x) ⊎ (r ≡ Err memory)) where
   pub only_value : (x : V) → r ≡ Ok x → (y : V) → Spells y → y ≡ x
   only_value x is y s = one (exactly y s)
     where
-      one : (r ≡ Ok y) ⊎ (r ≡ Err PddlMemory) → y ≡ x
+      one : (r ≡ Ok y) ⊎ (r ≡ Err memory) → y ≡ x
       one (inl e) = cc
       one (inr e) = cc
 
-  pub no_value : (fault : PddlFault) → r ≡ Err fault → (fault ≡ PddlMemory → ⊥) → (y : V) → Spells y → ⊥
+  pub no_value : (fault : E) → r ≡ Err fault → (fault ≡ memory → ⊥) → (y : V) → Spells y → ⊥
   no_value fault is plain y s = none (exactly y s)
     where
-      none : (r ≡ Ok y) ⊎ (r ≡ Err PddlMemory) → ⊥
+      none : (r ≡ Ok y) ⊎ (r ≡ Err memory) → ⊥
       none (inl e) = cc
       none (inr e) = plain cc
 
-pub only_fault : {V : Type 0} (F : PddlFault → Type 0) (r : Result V PddlFault) → ((f : PddlFault) → F f → (r ≡ Err f) ⊎ (r ≡ Err PddlMemory))
-    → (fault : PddlFault) → r ≡ Err fault → (fault ≡ PddlMemory → ⊥) → (other : PddlFault) → F other → other ≡ fault
-only_fault F r exactly fault is plain other h = one (exactly other h)
+pub not_ok : {V E : Type 0} (P : V → Type 0) {memory : E} (r : Result V E) (fault : E) → r ≡ Err fault → (fault ≡ memory → ⊥) → IsOkAnd r P ⊎ (r ≡ Err memory) → ⊥
+not_ok P (Ok x) fault is plain h = cc
+not_ok P (Err e) fault is plain (inl ok) = absurd ok
+not_ok P (Err e) fault is plain (inr m) = plain cc
+
+pub only_fault : {V E : Type 0} (F : E → Type 0) {memory : E} (r : Result V E) → ((f : E) → F f → (r ≡ Err f) ⊎ (r ≡ Err memory))
+    → (fault : E) → r ≡ Err fault → (fault ≡ memory → ⊥) → (other : E) → F other → other ≡ fault
+only_fault F {memory = memory} r exactly fault is plain other h = one (exactly other h)
   where
-    one : (r ≡ Err other) ⊎ (r ≡ Err PddlMemory) → other ≡ fault
+    one : (r ≡ Err other) ⊎ (r ≡ Err memory) → other ≡ fault
     one (inl e) = cc
     one (inr e) = absurd (plain cc)
 
-pub plain_fault : (F : PddlFault → Type 0) (fault : PddlFault) → (fault ≡ PddlMemory) ⊎ F fault → (fault ≡ PddlMemory → ⊥) → F fault
-plain_fault F fault (inl memory) plain = absurd (plain memory)
+pub plain_fault : {E : Type 0} (F : E → Type 0) {memory : E} (fault : E) → (fault ≡ memory) ⊎ F fault → (fault ≡ memory → ⊥) → F fault
+plain_fault F fault (inl is) plain = absurd (plain is)
 plain_fault F fault (inr h) plain = h
 
 -- how a run ends by a fault of a domain or a problem
@@ -190,3 +204,32 @@ pddl_cause P role (Tree fault) s memory refused free caused = subst P (sym (refu
 pddl_cause P role (PddlShape at) s memory refused free caused = subst P (sym (refused (λ e. cc))) (caused (λ e. cc))
 pddl_cause P role (Unsupported at feature) s memory refused free caused = subst P (sym (refused (λ e. cc))) (caused (λ e. cc))
 pddl_cause P role (DoubledSection at) s memory refused free caused = subst P (sym (refused (λ e. cc))) (caused (λ e. cc))
+
+-- how a run ends by a fault of a goals file
+pub goals_cause : (P : Status → Type 0) (fault : GoalFault) (s : Status)
+    → (fault ≡ GoalsMemory → s ≡ OutOfMemory) → ((fault ≡ GoalsMemory → ⊥) → s ≡ Refused (OfGoals fault))
+    → P OutOfMemory → ((fault ≡ GoalsMemory → ⊥) → P (Refused (OfGoals fault))) → P s
+goals_cause P GoalsMemory s memory refused free caused = subst P (sym (memory refl)) free
+goals_cause P (Shape line) s memory refused free caused = subst P (sym (refused (λ e. cc))) (caused (λ e. cc))
+goals_cause P (UnknownAtom line) s memory refused free caused = subst P (sym (refused (λ e. cc))) (caused (λ e. cc))
+goals_cause P NoGoal s memory refused free caused = subst P (sym (refused (λ e. cc))) (caused (λ e. cc))
+goals_cause P (TooManyGoals goals) s memory refused free caused = subst P (sym (refused (λ e. cc))) (caused (λ e. cc))
+
+-- a check of types answers the one fault
+pub fails_typing : (d : PlainDomain) (p : PlainProblem) (r : Result PlainTyped CheckTypeFault) (fault : TypeFault)
+    → ((f : TypeFault) → IsTypeFault d p f → (r ≡ Err (IsTyping f)) ⊎ (r ≡ Err TypingMemory)) → (IsWellTyped d p → IsOk r ⊎ (r ≡ Err TypingMemory))
+    → r ≡ Err (IsTyping fault) → IsTypeFault d p fault → FailsTyping d p fault
+fails_typing d p r fault exactly makes is has = record {
+  has = has;
+  only = λ other h. one other (exactly other h);
+  not_typed = λ well. none r is (makes well);
+}
+  where
+    one : (other : TypeFault) → (r ≡ Err (IsTyping other)) ⊎ (r ≡ Err TypingMemory) → other ≡ fault
+    one other (inl e) = cc
+    one other (inr e) = cc
+
+    none : (x : Result PlainTyped CheckTypeFault) → x ≡ Err (IsTyping fault) → IsOk x ⊎ (x ≡ Err TypingMemory) → ⊥
+    none (Ok typed) e h = cc
+    none (Err f) e (inl ok) = cc
+    none (Err f) e (inr m) = cc

@@ -1,11 +1,7 @@
 pub mod ReportLemmas
 pub mod FileLemmas
 pub mod CompleteLemmas
-pub mod NameLemmas
-pub mod AtomLemmas
-pub mod WorldLemmas
 pub mod WordsTable
 pub mod WordsItems
 pub mod WordsGiven
 pub mod WordsOnce
-pub mod FormLemmas

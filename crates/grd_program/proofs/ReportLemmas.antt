@@ -1,37 +1,22 @@
--- The report, action by action.
-use Rattle.std.proofs.Common.{◌≡◌, ℕ, ◌+◌, ◌<◌, List, [], ◌∷◌, ◌++◌, length, map, get_or, take, sym, ◌∙◌, ap, append_assoc, append-nil, add-zero, suc, arith, Option, length-take}
-use Rattle.std.specs.Prelude.{codes, unwrap_or}
-use Rattle.std.specs.List.{flat_map}
+-- The report, goal by goal.
+use Rattle.std.proofs.Common.{◌≡◌, ℕ, ◌+◌, ◌<◌, ◌≤◌, List, [], ◌∷◌, ◌++◌, length, map, get_or, take, sym, ◌∙◌, ap, append_assoc, append-nil, add-zero, suc, arith, Option, Some, length-take}
+use Rattle.std.specs.Prelude.{slice_get, unwrap_or}
 use Rattle.std.specs.Option.{option_map}
-use Rattle.std.proofs.lemmas.List.{take_more, length-map, get_or-map}
-use Rattle.std.proofs.lemmas.Grind.{flat_map-append}
-use Rattle.std.proofs.lemmas.Option.{slice_get-map, slice_get-get_or}
+use Rattle.std.proofs.lemmas.List.{take_more, take_all, length-map, length-take-le, get_or-map}
+use Rattle.std.proofs.lemmas.Option.{slice_get-map}
 use Rattle.grd_base.specs.declared.ids.ActionId.{ActionId}
-use Rattle.pddl_reader.specs.Values.{PlainSchema}
-use Rattle.grd_program.specs.Reports.{ground_name, name_of, plan_text, cost_line, cost_lines}
+use Rattle.ground_all.specs.Names.{IsTextAt}
+use Rattle.grd_program.specs.Reports.{cost_line, cost_lines}
 
-abbrev pub names : List PlainSchema → List (List ℕ)
-names actions = map (λ a. a.name.text) actions
-
-pub name_of-at : (actions : List PlainSchema) (a : ActionId) (d : PlainSchema) → a.0 < length actions
-    → name_of (names actions) a ≡ (get_or actions a.0 d).name.text
-name_of-at actions a d within =
-    ap (λ o. unwrap_or o []) (slice_get-map (λ (b : PlainSchema). b.name.text) actions a.0 ∙ ap (option_map (λ (b : PlainSchema). b.name.text)) (slice_get-get_or actions a.0 d within))
-
--- one action more
-pub plan_text_more : (actions : List PlainSchema) (plan : List ActionId) (i : ℕ) (d : ActionId) (act : PlainSchema) (start old new : List ℕ)
-    → i < length plan → (get_or plan i d).0 < length actions → act ≡ get_or actions (get_or plan i d).0 act
-    → old ≡ start ++ plan_text (names actions) (take i plan)
-    → new ≡ old ++ (codes " " ++ ground_name act.name.text)
-    → new ≡ start ++ plan_text (names actions) (take (i + 1) plan)
-plan_text_more actions plan i d act start old new within known is before step =
-    let f : ActionId → List ℕ = λ a. codes " " ++ ground_name (name_of (names actions) a) in
-    let named : act.name.text ≡ name_of (names actions) (get_or plan i d) = ap (λ (b : PlainSchema). b.name.text) is ∙ sym (name_of-at actions (get_or plan i d) act known) in
-    let more : flat_map f (take (i + 1) plan) ≡ flat_map f (take i plan) ++ f (get_or plan i d) =
-    ap (flat_map f) (take_more plan i d within) ∙ flat_map-append f (take i plan) (get_or plan i d ∷ []) ∙ ap (λ t. flat_map f (take i plan) ++ t) (append-nil (f (get_or plan i d))) in
-    step ∙ ap (λ t. t ++ (codes " " ++ ground_name act.name.text)) before
-    ∙ ap (λ t. (start ++ flat_map f (take i plan)) ++ (codes " " ++ ground_name t)) named
-    ∙ append_assoc start (flat_map f (take i plan)) (f (get_or plan i d)) ∙ ap (λ t. start ++ t) (sym more)
+-- a text that was written to the front of bytes of its length is all of them
+pub whole_text : {X : Type 0} (text_of : X → List ℕ) (items : List X) (number n size : ℕ) (bytes : List ℕ)
+    → n ≤ length bytes → length bytes ≡ size → ((item : X) → slice_get items number ≡ Some item → size ≡ length (text_of item))
+    → IsTextAt text_of items number (take n bytes) → bytes ≡ unwrap_or (slice_get (map text_of items) number) []
+whole_text text_of items number n size bytes within many sized text =
+    let front : length (take n bytes) ≡ n = length-take-le n bytes within in
+    let long : length (take n bytes) ≡ size = ap length text.is ∙ sym (sized text.item text.there) in
+    let there = slice_get-map text_of items number ∙ ap (option_map text_of) text.there in
+    sym (take_all n bytes (omega arith)) ∙ text.is ∙ sym (ap (λ o. unwrap_or o []) there)
 
 -- one goal more
 pub cost_lines-push : (ns : List (List ℕ)) (k : ℕ) (xs : List (Option (List ActionId))) (x : Option (List ActionId))

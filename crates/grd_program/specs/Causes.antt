@@ -1,5 +1,5 @@
 -- Why a file was not taken.
-use Rattle.std.specs.Prelude.{◌≡◌, ◌≢◌, ℕ, ◌^◌, ◌≤◌, Bool, false, List, length, IfSome, IsSomeAnd}
+use Rattle.std.specs.Prelude.{◌≡◌, ◌≢◌, ℕ, ◌^◌, ◌<◌, ◌≤◌, Bool, false, List, length, IfSome, IsSomeAnd}
 use Rattle.grd_io.specs.Bytes.{Told, IsLongerFile}
 use Rattle.grd_io.specs.Causes.{Rose}
 use Rattle.grd_base.specs.declared.roles.FileRole.{FileRole}
@@ -9,13 +9,18 @@ use Rattle.pddl_reader.specs.Spelling.{IsDomainText, IsProblemText}
 use Rattle.pddl_reader.specs.Faults.{IsDomainFault, IsProblemFault}
 use Rattle.pddl_reader.specs.declared.faults.PddlFault.{PddlFault}
 use Rattle.pddl_reader.specs.declared.faults.PddlFault.TheVariants.{OutOfMemory as PddlOutOfMemory}
+use Rattle.type_check.specs.Values.{PlainTyped, PlainGroundAtom}
+use Rattle.type_check.specs.Rules.{IsWellTyped, IsTypeFault}
+use Rattle.type_check.specs.Typing.{IsTyped}
+use Rattle.type_check.specs.declared.faults.TypeFault.{TypeFault}
 use Rattle.goal_files.specs.Goals.{SpellsGoals, IsGoalFault}
 use Rattle.goal_files.specs.declared.faults.GoalFault.{GoalFault}
 use Rattle.goal_files.specs.declared.faults.GoalFault.TheVariants.{OutOfMemory as GoalsOutOfMemory}
-use Rattle.grd_program.specs.Forms.{IsFirstForm, FitsDomain}
+use Rattle.ground_all.specs.Grounding.{fluent_atoms, instances}
+use Rattle.ground_all.specs.declared.faults.GroundFault.TheVariants.{TooManyAtoms, TooManyActions}
 use Rattle.grd_program.specs.declared.status.Status.{Status}
 use Rattle.grd_program.specs.declared.status.Status.TheVariants.{Refused, ReadFailed, OutOfMemory}
-use Rattle.grd_program.specs.declared.status.Refusal.TheVariants.{NotYet, TooLong, Pddl, Goals as OfGoals}
+use Rattle.grd_program.specs.declared.status.Refusal.TheVariants.{TooLong, Pddl, Typing, Goals as OfGoals, Count}
 
 -- the file is there with at most 2^20 bytes, and its text has the property, where the shelf tells
 abbrev pub HasText : Told → (List ℕ → Type 0) → Type 0
@@ -62,27 +67,50 @@ HasProblemCause told before now name (Refused (Pddl Problem fault)) =
     (fault ≢ PddlOutOfMemory) × IsQuiet before now × HasText told (FailsProblem fault)
 HasProblemCause told before now name status = HasReadCause Problem told before now name status
 
--- what a status says of a domain and a problem that are not taken yet
-abbrev pub HasFormCause : PlainDomain → PlainProblem → Status → Type 0
-HasFormCause d p (Refused (NotYet Domain)) = IsFirstForm d → ⊥
-HasFormCause d p (Refused (NotYet Problem)) = IsFirstForm d × (FitsDomain d p → ⊥)
-HasFormCause d p OutOfMemory = Unit {0}
-HasFormCause d p status = ⊥
+-- the domain and the problem are well typed, and make this
+pub record AreTyped (d : PlainDomain) (p : PlainProblem) (typed : PlainTyped) : Type 0 where
+  pub well_typed : IsWellTyped d p
+  pub made : IsTyped d p typed
+
+-- this is at fault in their typing, and nothing else
+pub record FailsTyping (d : PlainDomain) (p : PlainProblem) (fault : TypeFault) : Type 0 where
+  pub has : IsTypeFault d p fault
+  pub only : (other : TypeFault) → IsTypeFault d p other → other ≡ fault
+  pub not_typed : IsWellTyped d p → ⊥
+
+-- what a status says of a domain and a problem that are not well typed
+abbrev pub HasTypingCause : PlainDomain → PlainProblem → Status → Type 0
+HasTypingCause d p (Refused (Typing fault)) = FailsTyping d p fault
+HasTypingCause d p OutOfMemory = Unit {0}
+HasTypingCause d p status = ⊥
 
 -- the text spells these goals, and no others, and nothing in it is at fault
-pub record SpellsOnlyGoals (d : PlainDomain) (text : List ℕ) (goals : List (List (List ℕ))) : Type 0 where
-  pub spells : SpellsGoals d text goals
-  pub only : (others : List (List (List ℕ))) → SpellsGoals d text others → others ≡ goals
-  pub no_fault : (fault : GoalFault) → IsGoalFault d text fault → ⊥
+pub record SpellsOnlyGoals (typed : PlainTyped) (text : List ℕ) (goals : List (List PlainGroundAtom)) : Type 0 where
+  pub spells : SpellsGoals typed text goals
+  pub only : (others : List (List PlainGroundAtom)) → SpellsGoals typed text others → others ≡ goals
+  pub no_fault : (fault : GoalFault) → IsGoalFault typed text fault → ⊥
 
 -- this is at fault in the text, and nothing else, and it spells no goals
-pub record HasOnlyFault (d : PlainDomain) (text : List ℕ) (fault : GoalFault) : Type 0 where
-  pub has : IsGoalFault d text fault
-  pub only : (other : GoalFault) → IsGoalFault d text other → other ≡ fault
-  pub no_goals : (goals : List (List (List ℕ))) → SpellsGoals d text goals → ⊥
+pub record HasOnlyFault (typed : PlainTyped) (text : List ℕ) (fault : GoalFault) : Type 0 where
+  pub has : IsGoalFault typed text fault
+  pub only : (other : GoalFault) → IsGoalFault typed text other → other ≡ fault
+  pub no_goals : (goals : List (List PlainGroundAtom)) → SpellsGoals typed text goals → ⊥
 
 -- what a status says of the goals file: that it is at fault, or that it could not be read
-abbrev pub HasGoalsCause : Told → (List ℕ → Bool → ℕ) → (List ℕ → Bool → ℕ) → List ℕ → PlainDomain → Status → Type 0
-HasGoalsCause told before now name d (Refused (OfGoals fault)) =
-    (fault ≢ GoalsOutOfMemory) × IsQuiet before now × HasText told (λ text. HasOnlyFault d text fault)
-HasGoalsCause told before now name d status = HasReadCause Goals told before now name status
+abbrev pub HasGoalsCause : Told → (List ℕ → Bool → ℕ) → (List ℕ → Bool → ℕ) → List ℕ → PlainTyped → Status → Type 0
+HasGoalsCause told before now name typed (Refused (OfGoals fault)) =
+    (fault ≢ GoalsOutOfMemory) × IsQuiet before now × HasText told (λ text. HasOnlyFault typed text fault)
+HasGoalsCause told before now name typed status = HasReadCause Goals told before now name status
+
+-- the world is small enough: at most 3,072 fluent atoms and 1,048,576 typed instances of actions
+pub record HasFew (typed : PlainTyped) : Type 0 where
+  pub atoms : length (fluent_atoms typed) ≤ 3072
+  pub actions : length (instances typed) ≤ 2 ^ 20
+
+-- what a status says of a world that is too large: how many atoms it has, or else how many actions
+abbrev pub HasCountCause : PlainTyped → Status → Type 0
+HasCountCause typed (Refused (Count (TooManyAtoms count))) = (count ≡ length (fluent_atoms typed)) × (3072 < count)
+HasCountCause typed (Refused (Count (TooManyActions count))) =
+    (length (fluent_atoms typed) ≤ 3072) × (count ≡ length (instances typed)) × (2 ^ 20 < count)
+HasCountCause typed OutOfMemory = Unit {0}
+HasCountCause typed status = ⊥

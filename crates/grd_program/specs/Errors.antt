@@ -11,10 +11,15 @@ use Rattle.pddl_reader.specs.declared.faults.Feature.{Feature}
 use Rattle.pddl_reader.specs.declared.faults.Feature.TheVariants.{Requirement, Functions, Derived, Durative, Constraints, Metric, EitherOfNames, Disjunction, Implication, Quantifier, Conditional, Preference, NumericEffect, NumericCondition, Equality, NegativePrecondition, NegativeInit}
 use Rattle.pddl_reader.specs.declared.faults.PddlFault.{PddlFault}
 use Rattle.pddl_reader.specs.declared.faults.PddlFault.TheVariants.{Lex, Tree, Shape as PddlShape, Unsupported, DoubledSection, OutOfMemory as PddlOutOfMemory}
+use Rattle.type_check.specs.declared.faults.TypeFault.{TypeFault}
+use Rattle.type_check.specs.declared.faults.TypeKind.{TypeKind}
+use Rattle.type_check.specs.declared.faults.TypeKind.TheVariants.{UnknownType, TypeCycle, Doubled, UnknownPredicate, WrongCount, WrongType, UnknownName, UnboundVariable, OtherDomain, TooManyObjects, TooManyParameters, TooManyLiterals}
+use Rattle.ground_all.specs.declared.faults.GroundFault.{GroundFault}
+use Rattle.ground_all.specs.declared.faults.GroundFault.TheVariants.{TooManyAtoms, TooManyActions, OutOfMemory as CountOutOfMemory}
 use Rattle.grd_program.specs.declared.status.Status.{Status}
 use Rattle.grd_program.specs.declared.status.Status.TheVariants.{Done, Refused, Usage, Limit, ReadFailed, WriteFailed, OutOfMemory}
 use Rattle.grd_program.specs.declared.status.Refusal.{Refusal}
-use Rattle.grd_program.specs.declared.status.Refusal.TheVariants.{NotYet, TooLong, Pddl, Goals as OfGoals}
+use Rattle.grd_program.specs.declared.status.Refusal.TheVariants.{TooLong, Pddl, Typing, Goals as OfGoals, Count}
 use Rattle.grd_program.specs.declared.status.UsageFault.{UsageFault}
 use Rattle.grd_program.specs.declared.status.UsageFault.TheVariants.{NoCommand, UnknownCommand, BadItem, Repeated, Missing, BadNumber}
 use Rattle.grd_program.specs.declared.status.LimitFault.TheVariants.{States}
@@ -87,12 +92,38 @@ pddl_text (Unsupported at feature) = place_text at (codes "unsupported " ++ feat
 pddl_text (DoubledSection at) = place_text at (codes "doubled section")
 pddl_text PddlOutOfMemory = []
 
+-- what a broken rule of typing is called
+abbrev pub kind_text : TypeKind → List ℕ
+kind_text UnknownType = codes "unknown type"
+kind_text TypeCycle = codes "type cycle"
+kind_text Doubled = codes "doubled"
+kind_text UnknownPredicate = codes "unknown predicate"
+kind_text WrongCount = codes "wrong count"
+kind_text WrongType = codes "wrong type"
+kind_text UnknownName = codes "unknown name"
+kind_text UnboundVariable = codes "unbound variable"
+kind_text OtherDomain = codes "other domain"
+kind_text TooManyObjects = codes "too many objects"
+kind_text TooManyParameters = codes "too many parameters"
+kind_text TooManyLiterals = codes "too many literals"
+
+-- what is said of a domain and a problem that are not well typed
+abbrev pub typing_text : TypeFault → List ℕ
+typing_text fault = role_text fault.file ++ codes ": " ++ place_text fault.at (kind_text fault.kind)
+
+-- what is said of a world that is too large
+abbrev pub count_text : GroundFault → List ℕ
+count_text (TooManyAtoms count) = decimal count ++ codes " atoms, limit 3072"
+count_text (TooManyActions count) = decimal count ++ codes " actions, limit 1048576"
+count_text CountOutOfMemory = []
+
 -- what is said of a file that is refused
 abbrev pub refusal_text : Refusal → List ℕ
-refusal_text (NotYet role) = role_text role ++ codes ": not yet read"
 refusal_text (TooLong role limit) = role_text role ++ codes ": longer than " ++ decimal limit ++ codes " bytes"
 refusal_text (Pddl role fault) = role_text role ++ codes ": " ++ pddl_text fault
+refusal_text (Typing fault) = typing_text fault
 refusal_text (OfGoals fault) = codes "goals: " ++ goals_text fault
+refusal_text (Count fault) = count_text fault
 
 -- goals are counted from 1 in the text
 abbrev pub error_text : Status → List ℕ
@@ -107,10 +138,11 @@ error_text OutOfMemory = codes "grd: out of memory\n"
 
 -- no want of memory stands inside a refusal
 abbrev pub IsPlainRefusal : Refusal → Type 0
-IsPlainRefusal (NotYet role) = Unit {0}
 IsPlainRefusal (TooLong role limit) = Unit {0}
 IsPlainRefusal (Pddl role fault) = fault ≡ PddlOutOfMemory → ⊥
+IsPlainRefusal (Typing fault) = Unit {0}
 IsPlainRefusal (OfGoals fault) = fault ≡ GoalsOutOfMemory → ⊥
+IsPlainRefusal (Count fault) = fault ≡ CountOutOfMemory → ⊥
 
 abbrev pub IsPlainStatus : Status → Type 0
 IsPlainStatus (Refused refusal) = IsPlainRefusal refusal

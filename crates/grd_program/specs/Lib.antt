@@ -2,9 +2,6 @@ pub mod Statuses
 pub mod Errors
 pub mod Commands
 pub mod Words
-pub mod Forms
-pub mod Worlds
-pub mod Names
 pub mod Reports
 pub mod Causes
 pub mod Runs

@@ -1,26 +1,23 @@
 -- The report of costs, and of how long two goals can't be told apart.
-use Rattle.std.specs.Prelude.{◌≡◌, ℕ, ◌+◌, map, List, [], ◌∷◌, ◌++◌, length, codes, Option, Some, None, slice_get, unwrap_or}
+use Rattle.std.specs.Prelude.{◌≡◌, ℕ, ◌+◌, ◌<◌, map, List, [], ◌∷◌, ◌++◌, length, All, codes, Option, Some, None, slice_get, unwrap_or}
 use Rattle.std.specs.List.{flat_map}
 use Rattle.std.specs.Fmt.{decimal}
 use Rattle.grd_base.specs.declared.ids.ActionId.{ActionId}
-use Rattle.pddl_reader.specs.Values.{PlainDomain, PlainProblem}
-use Rattle.grd_program.specs.Worlds.{spelled_task}
+use Rattle.type_check.specs.Values.{PlainTyped, PlainGroundAtom}
+use Rattle.ground_all.specs.Grounding.{instances, ground_task}
+use Rattle.ground_all.specs.Names.{action_text}
 use Rattle.grd_program.specs.declared.report.Question.{Question}
 use Rattle.grd_program.specs.declared.report.Question.TheVariants.{Costs, Wcd}
 use Rattle.strips_model.specs.Values.{PlainTask, PlainWitness}
 use Rattle.strips_model.specs.Common.{AreRight, IsRightWcd}
 
--- an action without objects is printed as its name in brackets
-abbrev pub ground_name : List ℕ → List ℕ
-ground_name name = codes "(" ++ name ++ codes ")"
-
--- the name of the action with this number
+-- the text of the action with this number
 abbrev pub name_of : List (List ℕ) → ActionId → List ℕ
 name_of names a = unwrap_or (slice_get names a.0) []
 
 -- a space and an action, for each action
 abbrev pub plan_text : List (List ℕ) → List ActionId → List ℕ
-plan_text names plan = flat_map (λ a. codes " " ++ ground_name (name_of names a)) plan
+plan_text names plan = flat_map (λ a. codes " " ++ name_of names a) plan
 
 -- the cost of a goal with this optimal plan, or without a plan
 abbrev pub cost_text : List (List ℕ) → Option (List ActionId) → List ℕ
@@ -60,19 +57,25 @@ wcd_lines names (Some w) = witness_lines names w
 abbrev pub wcd_report : List (List ℕ) → List (Option (List ActionId)) → Option PlainWitness → List ℕ
 wcd_report names answers wcd = cost_report names answers ++ wcd_lines names wcd
 
--- the names of the domain's actions, by their numbers
-abbrev pub action_names : PlainDomain → List (List ℕ)
-action_names d = map (λ a. a.name.text) d.actions
+-- the texts of the typed instances of the actions, by their numbers
+abbrev pub action_names : PlainTyped → List (List ℕ)
+action_names typed = map (action_text typed) (instances typed)
 
 -- the text is the report of the costs that were found and of a right wcd
 abbrev pub IsWcdReport : PlainTask → List (List ℕ) → List (Option (List ActionId)) → List ℕ → Type 0
 IsWcdReport t names found text = (wcd : Option PlainWitness) × IsRightWcd t [] wcd × (text ≡ wcd_report names found wcd)
 
 -- the text is the report that answers the question with what is right for the goals of this world
-abbrev pub IsReportOn : Question → PlainDomain → PlainProblem → List (List (List ℕ)) → List ℕ → Type 0
-IsReportOn Costs d p goals text =
-    (found : List (Option (List ActionId))) × AreRight (spelled_task d p goals) [] found
-    × (text ≡ cost_report (action_names d) found)
-IsReportOn Wcd d p goals text =
-    (found : List (Option (List ActionId))) × AreRight (spelled_task d p goals) [] found
-    × IsWcdReport (spelled_task d p goals) (action_names d) found text
+abbrev pub IsReportOn : Question → PlainTyped → List (List PlainGroundAtom) → List ℕ → Type 0
+IsReportOn Costs typed goals text =
+    (found : List (Option (List ActionId))) × AreRight (ground_task typed goals) [] found
+    × (text ≡ cost_report (action_names typed) found)
+IsReportOn Wcd typed goals text =
+    (found : List (Option (List ActionId))) × AreRight (ground_task typed goals) [] found
+    × IsWcdReport (ground_task typed goals) (action_names typed) found text
+
+-- the witness has actions below this number alone
+pub record IsOver (actions : ℕ) (w : PlainWitness) : Type 0 where
+  pub prefix : All (λ a. a.0 < actions) w.prefix
+  pub first : All (λ a. a.0 < actions) w.plans.0
+  pub second : All (λ a. a.0 < actions) w.plans.1

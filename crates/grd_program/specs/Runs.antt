@@ -8,7 +8,10 @@ use Rattle.strips_model.specs.Values.{PlainTask}
 use Rattle.strips_model.specs.Reached.{MoreThan, IsReachedFor}
 use Rattle.pddl_reader.specs.Values.{PlainDomain, PlainProblem}
 use Rattle.pddl_reader.specs.Spelling.{IsDomainText, IsProblemText}
+use Rattle.type_check.specs.Values.{PlainTyped, PlainGroundAtom}
+use Rattle.type_check.specs.Typing.{IsTyped}
 use Rattle.goal_files.specs.Goals.{SpellsGoals}
+use Rattle.ground_all.specs.Grounding.{ground_task}
 use Rattle.goal_files.specs.declared.faults.GoalFault.TheVariants.{OutOfMemory as GoalsOutOfMemory}
 use Rattle.pddl_reader.specs.declared.faults.PddlFault.TheVariants.{OutOfMemory as PddlOutOfMemory}
 use Rattle.pddl_print.specs.Canonical.{domain_text, problem_text}
@@ -18,23 +21,22 @@ use Rattle.grd_program.specs.declared.report.Question.{Question}
 use Rattle.grd_program.specs.declared.report.Question.TheVariants.{Costs, Wcd as OfWcd}
 use Rattle.grd_program.specs.declared.status.Status.{Status}
 use Rattle.grd_program.specs.declared.status.Status.TheVariants.{Done, Refused, Usage, Limit, ReadFailed, WriteFailed, OutOfMemory}
-use Rattle.grd_program.specs.declared.status.Refusal.TheVariants.{NotYet, TooLong, Pddl, Goals as OfGoals}
+use Rattle.grd_program.specs.declared.status.Refusal.TheVariants.{TooLong, Pddl, Typing, Goals as OfGoals, Count}
 use Rattle.grd_program.specs.declared.status.UsageFault.{UsageFault}
 use Rattle.grd_program.specs.declared.status.LimitFault.TheVariants.{States}
 use Rattle.grd_program.specs.Commands.{PlainJob, Reads, IsUsageFault}
-use Rattle.grd_program.specs.Forms.{IsFirstForm, FitsDomain}
-use Rattle.grd_program.specs.Worlds.{spelled_task}
 use Rattle.grd_program.specs.Reports.{IsReportOn}
 use Rattle.grd_program.specs.Errors.{error_text}
-use Rattle.grd_program.specs.Causes.{HasText, IsQuiet, OnlyRose, FailsDomain, FailsProblem, SpellsOnlyGoals, HasOnlyFault}
+use Rattle.grd_program.specs.Causes.{HasText, IsQuiet, OnlyRose, FailsDomain, FailsProblem, AreTyped, HasTypingCause, SpellsOnlyGoals, HasOnlyFault, HasFew, HasCountCause}
 
--- the three texts spell a world with goals, whose atoms have no arguments
-pub record SpellWorld (domain_text problem_text goals_text : List ℕ) (d : PlainDomain) (p : PlainProblem) (goals : List (List (List ℕ))) : Type 0 where
-  pub domain : IsDomainText domain_text d
-  pub problem : IsProblemText problem_text p
-  pub form : IsFirstForm d
-  pub fits : FitsDomain d p
-  pub gives : SpellsGoals d goals_text goals
+-- the three texts spell a world with goals: a domain and a problem that are well typed, and goals over them
+pub record SpellWorld (domain_text problem_text goals_text : List ℕ) (typed : PlainTyped) (goals : List (List PlainGroundAtom)) : Type 0 where
+  pub domain : PlainDomain
+  pub problem : PlainProblem
+  pub is_domain : IsDomainText domain_text domain
+  pub is_problem : IsProblemText problem_text problem
+  pub are_typed : AreTyped domain problem typed
+  pub gives : SpellsGoals typed goals_text goals
 
 -- the text is the report that answers the question about the world that the three files, of at most 2^20
 -- bytes each, spell
@@ -48,11 +50,10 @@ pub record IsWorldReport (question : Question) (domain_file problem_file goals_f
   pub domain_short : length domain_text ≤ 2 ^ 20
   pub problem_short : length problem_text ≤ 2 ^ 20
   pub goals_short : length goals_text ≤ 2 ^ 20
-  pub domain : PlainDomain
-  pub problem : PlainProblem
-  pub goals : List (List (List ℕ))
-  pub spelled : SpellWorld domain_text problem_text goals_text domain problem goals
-  pub report : IsReportOn question domain problem goals text
+  pub typed : PlainTyped
+  pub goals : List (List PlainGroundAtom)
+  pub spelled : SpellWorld domain_text problem_text goals_text typed goals
+  pub report : IsReportOn question typed goals text
 
 -- the text is the canonical text of the domain and of the problem that the two files, of at most 2^20
 -- bytes each, spell
@@ -135,9 +136,10 @@ HasSearchCause states t (Limit (States g limit)) = MeetsLimit states t g limit
 HasSearchCause states t OutOfMemory = Unit {0}
 HasSearchCause states t status = ⊥
 
--- why there is no report over a world that was read
-abbrev pub HasAnswerCause : ℕ → PlainDomain → PlainProblem → List (List (List ℕ)) → Status → Type 0
-HasAnswerCause states d p goals status = HasSearchCause states (spelled_task d p goals) status
+-- why there is no report over a world that was read: it is too large, or a search met its limit
+abbrev pub HasAnswerCause : ℕ → PlainTyped → List (List PlainGroundAtom) → Status → Type 0
+HasAnswerCause states typed goals (Limit (States g limit)) = HasFew typed × MeetsLimit states (ground_task typed goals) g limit
+HasAnswerCause states typed goals status = HasCountCause typed status
 
 -- the text spells this value and no other
 abbrev pub SpellsOnly : {V : Type 0} → (List ℕ → V → Type 0) → V → List ℕ → Type 0
@@ -150,24 +152,26 @@ TakesDomain told domain d = HasText (told domain) (SpellsOnly IsDomainText d)
 abbrev pub TakesProblem : (List ℕ → Told) → List ℕ → PlainProblem → Type 0
 TakesProblem told problem p = HasText (told problem) (SpellsOnly IsProblemText p)
 
-abbrev pub TakesGoals : (List ℕ → Told) → List ℕ → PlainDomain → List (List (List ℕ)) → Type 0
-TakesGoals told goals_file d goals = HasText (told goals_file) (λ text. SpellsOnlyGoals d text goals)
+abbrev pub TakesGoals : (List ℕ → Told) → List ℕ → PlainTyped → List (List PlainGroundAtom) → Type 0
+TakesGoals told goals_file typed goals = HasText (told goals_file) (λ text. SpellsOnlyGoals typed text goals)
 
 -- the domain and the problem of the job are taken
 pub record TakesTexts (told : List ℕ → Told) (job : PlainJob) (d : PlainDomain) (p : PlainProblem) : Type 0 where
   pub takes_domain : TakesDomain told job.domain d
   pub takes_problem : TakesProblem told job.problem p
 
--- and are of the form that the commands take which search
-pub record TakesWorld (told : List ℕ → Told) (job : PlainJob) (d : PlainDomain) (p : PlainProblem) : Type 0 where
-  pub texts : TakesTexts told job d p
-  pub form : IsFirstForm d
-  pub fits : FitsDomain d p
+-- and are well typed, and make this and nothing else
+pub record TakesTyped (told : List ℕ → Told) (job : PlainJob) (typed : PlainTyped) : Type 0 where
+  pub domain : PlainDomain
+  pub problem : PlainProblem
+  pub texts : TakesTexts told job domain problem
+  pub are_typed : AreTyped domain problem typed
+  pub only : (other : PlainTyped) → IsTyped domain problem other → other ≡ typed
 
 -- the three files of the job are taken
-pub record TakesFiles (told : List ℕ → Told) (job : PlainJob) (d : PlainDomain) (p : PlainProblem) (goals : List (List (List ℕ))) : Type 0 where
-  pub world : TakesWorld told job d p
-  pub takes_goals : TakesGoals told job.goals d goals
+pub record TakesFiles (told : List ℕ → Told) (job : PlainJob) (typed : PlainTyped) (goals : List (List PlainGroundAtom)) : Type 0 where
+  pub takes_typed : TakesTyped told job typed
+  pub takes_goals : TakesGoals told job.goals typed goals
 
 -- why the domain or the problem was not taken; the problem's cause comes only where the domain was taken
 abbrev pub HasTextsCause : (List ℕ → Told) → (List ℕ → Bool → ℕ) → (List ℕ → Bool → ℕ) → PlainJob → Status → Type 0
@@ -185,25 +189,29 @@ HasTextsCause told before now job (ReadFailed Problem) =
 HasTextsCause told before now job OutOfMemory = Unit {0}
 HasTextsCause told before now job status = ⊥
 
+-- why the domain and the problem of the job make no typed ones
+abbrev pub HasTypedCause : (List ℕ → Told) → (List ℕ → Bool → ℕ) → (List ℕ → Bool → ℕ) → PlainJob → Status → Type 0
+HasTypedCause told before now job (Refused (Typing fault)) =
+    IsQuiet before now × (d : PlainDomain) × (p : PlainProblem) × TakesTexts told job d p × HasTypingCause d p (Refused (Typing fault))
+HasTypedCause told before now job status = HasTextsCause told before now job status
+
 -- why there is no report over the three files; each answer comes only where the files before it were taken
 abbrev pub HasFilesCause : (List ℕ → Told) → (List ℕ → Bool → ℕ) → (List ℕ → Bool → ℕ) → PlainJob → Status → Type 0
-HasFilesCause told before now job (Refused (NotYet Domain)) =
-    IsQuiet before now × (d : PlainDomain) × (p : PlainProblem) × TakesTexts told job d p × (IsFirstForm d → ⊥)
-HasFilesCause told before now job (Refused (NotYet Problem)) =
-    IsQuiet before now × (d : PlainDomain) × (p : PlainProblem) × TakesTexts told job d p × IsFirstForm d × (FitsDomain d p → ⊥)
 HasFilesCause told before now job (Refused (TooLong Goals limit)) =
-    (limit ≡ 2 ^ 20) × IsQuiet before now
-    × (d : PlainDomain) × (p : PlainProblem) × TakesWorld told job d p × IsLongerFile (told job.goals) limit
+    (limit ≡ 2 ^ 20) × IsQuiet before now × (typed : PlainTyped) × TakesTyped told job typed × IsLongerFile (told job.goals) limit
 HasFilesCause told before now job (Refused (OfGoals fault)) =
     (fault ≢ GoalsOutOfMemory) × IsQuiet before now
-    × (d : PlainDomain) × (p : PlainProblem) × TakesWorld told job d p × HasText (told job.goals) (λ text. HasOnlyFault d text fault)
-HasFilesCause told before now job (Limit (States g limit)) =
+    × (typed : PlainTyped) × TakesTyped told job typed × HasText (told job.goals) (λ text. HasOnlyFault typed text fault)
+HasFilesCause told before now job (Refused (Count fault)) =
     IsQuiet before now
-    × (d : PlainDomain) × (p : PlainProblem) × (goals : List (List (List ℕ)))
-    × TakesFiles told job d p goals × MeetsLimit job.limits.states (spelled_task d p goals) g limit
-HasFilesCause told before now job (ReadFailed Goals) =
-    ((d : PlainDomain) × (p : PlainProblem) × TakesWorld told job d p) × OnlyRose before now job.goals
-HasFilesCause told before now job status = HasTextsCause told before now job status
+    × (typed : PlainTyped) × (goals : List (List PlainGroundAtom)) × TakesFiles told job typed goals
+    × HasAnswerCause job.limits.states typed goals (Refused (Count fault))
+HasFilesCause told before now job (Limit fault) =
+    IsQuiet before now
+    × (typed : PlainTyped) × (goals : List (List PlainGroundAtom)) × TakesFiles told job typed goals
+    × HasAnswerCause job.limits.states typed goals (Limit fault)
+HasFilesCause told before now job (ReadFailed Goals) = ((typed : PlainTyped) × TakesTyped told job typed) × OnlyRose before now job.goals
+HasFilesCause told before now job status = HasTypedCause told before now job status
 
 -- why the command has no text for the job
 abbrev pub HasCommandCause : Command → (List ℕ → Told) → (List ℕ → Bool → ℕ) → (List ℕ → Bool → ℕ) → PlainJob → Status → Type 0
@@ -237,10 +245,15 @@ HasInputCause told before now words OutOfMemory = Unit {0}
 HasInputCause told before now words status =
     (job : PlainJob) × ReadsOnly words job × HasCommandCause job.command told before now job status
 
+-- the three files of the job are taken, and the world is small enough
+abbrev pub HasTakenFiles : (List ℕ → Told) → PlainJob → Type 0
+HasTakenFiles told job =
+    (typed : PlainTyped) × (goals : List (List PlainGroundAtom)) × TakesFiles told job typed goals × HasFew typed
+
 -- what the command takes for the job
 abbrev pub HasTaken : Command → (List ℕ → Told) → PlainJob → Type 0
-HasTaken Cost told job = (d : PlainDomain) × (p : PlainProblem) × (goals : List (List (List ℕ))) × TakesFiles told job d p goals
-HasTaken Wcd told job = (d : PlainDomain) × (p : PlainProblem) × (goals : List (List (List ℕ))) × TakesFiles told job d p goals
+HasTaken Cost told job = HasTakenFiles told job
+HasTaken Wcd told job = HasTakenFiles told job
 HasTaken Show told job = (d : PlainDomain) × (p : PlainProblem) × TakesTexts told job d p
 
 -- the words were read and the files of the job taken, and no count of the shelf changed
@@ -267,15 +280,16 @@ pub record HasTexts (told : List ℕ → Told) (job : PlainJob) (d : PlainDomain
   pub is_domain : IsDomainText domain_bytes d
   pub is_problem : IsProblemText problem_bytes p
 
--- with the goals, also at most 2^20 bytes, they spell this world
-pub record HasWorld (told : List ℕ → Told) (job : PlainJob) (d : PlainDomain) (p : PlainProblem) (goals : List (List (List ℕ))) : Type 0 where
-  pub texts : HasTexts told job d p
+-- they are well typed and, with the goals, also at most 2^20 bytes, spell this world
+pub record HasWorld (told : List ℕ → Told) (job : PlainJob) (typed : PlainTyped) (goals : List (List PlainGroundAtom)) : Type 0 where
+  pub domain : PlainDomain
+  pub problem : PlainProblem
+  pub texts : HasTexts told job domain problem
+  pub are_typed : AreTyped domain problem typed
   pub goals_bytes : List ℕ
   pub goals_there : told job.goals ≡ Some (Some goals_bytes)
   pub goals_short : length goals_bytes ≤ 2 ^ 20
-  pub form : IsFirstForm d
-  pub fits : FitsDomain d p
-  pub gives : SpellsGoals d goals_bytes goals
+  pub gives : SpellsGoals typed goals_bytes goals
 
 -- no count of what every command does rose: that of reading the domain or the problem, or of writing
 -- the output
@@ -284,15 +298,15 @@ pub record HasNoFault (before now : List ℕ → Bool → ℕ) (job : PlainJob) 
   pub reads_problem : Rose (before job.problem false) (now job.problem false) → ⊥
   pub writes : Rose out_before out_now → ⊥
 
--- the files spell a world, no count rose, and no goal has more states than the limit
+-- the files spell a world that is small enough, no count rose, and no goal has more states than the limit
 pub record CanReport (told : List ℕ → Told) (before now : List ℕ → Bool → ℕ) (job : PlainJob) (out_before out_now : ℕ) : Type 0 where
-  pub domain : PlainDomain
-  pub problem : PlainProblem
-  pub goals : List (List (List ℕ))
-  pub world : HasWorld told job domain problem goals
+  pub typed : PlainTyped
+  pub goals : List (List PlainGroundAtom)
+  pub world : HasWorld told job typed goals
+  pub few : HasFew typed
   pub no_fault : HasNoFault before now job out_before out_now
   pub reads_goals : Rose (before job.goals false) (now job.goals false) → ⊥
-  pub few : (g : GoalId) → g.0 < length goals → MoreThan job.limits.states (IsReachedFor (spelled_task domain problem goals) g) → ⊥
+  pub few_states : (g : GoalId) → g.0 < length goals → MoreThan job.limits.states (IsReachedFor (ground_task typed goals) g) → ⊥
 
 -- the files spell a domain and a problem, and no count rose
 pub record CanShow (told : List ℕ → Told) (before now : List ℕ → Bool → ℕ) (job : PlainJob) (out_before out_now : ℕ) : Type 0 where

@@ -1,28 +1,26 @@
 ghost use Rattle.std.specs.Prelude.{◌≡◌, ℕ, ◌^◌, ◌<◌, ◌≤◌, List, [], length, map, All, Bool, IfSome, IfOk, IfErr, OnOk, string_bytes};
 ghost use Rattle.std.specs.Option.{option_map};
 ghost use Rattle.strips_model.specs.Common.{AreRight};
-ghost use Rattle.pddl_reader.specs.Values.{PlainDomain, PlainProblem};
-ghost use Rattle.grd_program.specs.Forms.{IsFirstForm};
-ghost use Rattle.grd_program.specs.Causes.{IsQuiet};
+ghost use Rattle.type_check.specs.Typing.{IsTypedTask};
+ghost use Rattle.ground_all.specs.Grounding.{instances, ground_task};
+ghost use Rattle.grd_program.specs.Causes.{IsQuiet, HasFew, HasCountCause};
 ghost use Rattle.grd_program.specs.Reports.{action_names, IsWcdReport, IsReportOn};
-ghost use Rattle.grd_program.specs.Runs.{TakesFiles, IsReportText, IsTextOf, IsAnswerText, ReadsOnly, HasWordsCause, HasFilesCause, HasCommandCause, HasInputCause, HasSearchCause, HasAnswerCause, HasTaken, HasPassed};
+ghost use Rattle.grd_program.specs.Runs.{TakesFiles, IsReportText, IsTextOf, IsAnswerText, ReadsOnly, HasWordsCause, HasFilesCause, HasCommandCause, HasInputCause, HasSearchCause, HasAnswerCause, HasTakenFiles, HasTaken, HasPassed};
 
 use crate::command::Command;
-use crate::files::{Texts, goals_of, read_texts};
-use crate::forms::check_forms;
+use crate::files::goals_of;
 use crate::job::Job;
 use crate::report::{Question, cost_report, wcd_report};
 use crate::show::show_text;
-use crate::status::{LimitFault, Status};
+use crate::status::{LimitFault, Refusal, Status};
+use crate::typed::read_typed;
 use crate::words::{WordsFault, read_words};
-use crate::world::task_of;
-use goal_files::Goal;
 use grd_base::{ActionId, GoalId};
 use grd_io::Shelf;
-use pddl_reader::{Domain, Problem};
+use ground_all::{GroundFault, Grounded, ground};
 use plain_search::{GoalSearchFault, costs, wcd};
 use std::alloc::Global;
-use strips_model::Task;
+use type_check::{Goal, Typed};
 
 /// The job for which the words ask.
 fn job_of(alloc: Global, words: &[String]) -> Result<Job, Status>
@@ -39,17 +37,15 @@ fn job_of(alloc: Global, words: &[String]) -> Result<Job, Status>
 /// What the files of a job spell.
 #[derive(Drop)]
 struct Inputs {
-    domain: Domain,
-    problem: Problem,
+    typed: Typed,
     goals: Vec<Goal>,
 }
 
 /// Reads the three files in their order.
 fn read_inputs<F: Shelf>(alloc: Global, shelf: &mut F, job: &Job) -> Result<Inputs, Status>
     ensures taken { IfOk result
-        (λ i. TakesFiles (F.told shelf.old) job.now i.domain i.problem i.goals.items) }
-    ensures form { IfOk result (λ i. IsFirstForm i.domain) }
-    ensures few_actions { IfOk result (λ i. length i.domain.actions ≤ 2 ^ 21) }
+        (λ i. TakesFiles (F.told shelf.old) job.now i.typed i.goals.items) }
+    ensures task { IfOk result (λ i. IsTypedTask i.typed) }
     ensures few_goals { IfOk result (λ i. length i.goals.items ≤ 32) }
     ensures cause { IfErr result
         (HasFilesCause (F.told shelf.old) (F.faults shelf.old) (F.faults shelf.new) job.now) }
@@ -57,14 +53,25 @@ fn read_inputs<F: Shelf>(alloc: Global, shelf: &mut F, job: &Job) -> Result<Inpu
     ensures later { (x : List ℕ) (w : Bool) → F.faults shelf.old x w ≤ F.faults shelf.new x w }
     ensures quiet { OnOk result (IsQuiet (F.faults shelf.old) (F.faults shelf.new)) }
 {
-    let Texts { domain, problem } = read_texts(alloc, shelf, job)?;
-    check_forms(alloc, &domain, &problem)?;
-    let goals = goals_of(alloc, shelf, &job.goals, &domain)?;
-    Ok(Inputs {
-        domain,
-        problem,
-        goals,
-    })
+    let typed = read_typed(alloc, shelf, job)?;
+    let goals = goals_of(alloc, shelf, &job.goals, &typed)?;
+    Ok(Inputs { typed, goals })
+}
+
+/// The grounded world of goals over a typed domain and problem, where it is small enough.
+fn world_of<'t>(alloc: Global, typed: &'t Typed, goals: &'t [Goal]) -> Result<Grounded<'t>, Status>
+    requires task { IsTypedTask typed.now }
+    requires few_goals { length goals.now ≤ 32 }
+    ensures typed { IfOk result (λ world. world.typed ≡ typed.now) }
+    ensures goals { IfOk result (λ world. world.goals ≡ goals.now) }
+    ensures few { OnOk result (HasFew typed.now) }
+    ensures cause { IfErr result (HasCountCause typed.now) }
+{
+    match ground(alloc, typed, goals) {
+        Ok(world) => Ok(world),
+        Err(GroundFault::OutOfMemory) => Err(Status::OutOfMemory),
+        Err(fault) => Err(Status::Refused(Refusal::Count(fault))),
+    }
 }
 
 /// How a run ends where a search has no answer.
@@ -79,57 +86,71 @@ fn search_status(fault: GoalSearchFault, states: u32) -> Status
     }
 }
 
-/// The report of `wcd` over a task whose costs were found.
+/// The report of `wcd` over a world whose costs were found.
 fn wcd_on(
     alloc: Global,
-    task: &Task,
+    world: &Grounded<'_>,
     states: u32,
-    domain: &Domain,
     found: &[Option<Vec<ActionId>>],
-) -> Result<String, Status>
+) -> Result<Vec<u8>, Status>
     requires states { 1 ≤ states }
-    requires right { AreRight task.now [] (map (option_map (λ plan. plan.items)) found.now) }
-    requires same_actions { length task.now.actions ≡ length domain.now.actions }
+    requires right { AreRight (ground_task world.now.typed world.now.goals) []
+        (map (option_map (λ plan. plan.items)) found.now) }
     requires in_range { All
-        (λ x. IfSome x (λ plan. All (λ a. a.0 < length domain.now.actions) plan.items)) found.now }
+        (λ x. IfSome x (λ plan. All (λ a. a.0 < length (instances world.now.typed)) plan.items)) found.now }
     ensures report { IfOk result
-        (λ text. IsWcdReport task.now (action_names domain.now)
-        (map (option_map (λ plan. plan.items)) found.now) (string_bytes text)) }
-    ensures cause { IfErr result (HasSearchCause states task.now) }
+        (λ text. IsWcdReport (ground_task world.now.typed world.now.goals) (action_names world.now.typed)
+        (map (option_map (λ plan. plan.items)) found.now) text.items) }
+    ensures cause { IfErr result
+        (HasSearchCause states (ground_task world.now.typed world.now.goals)) }
 {
-    let witness = match wcd(alloc, task, found, states) {
+    let witness = match wcd(alloc, world.task(), found, states) {
         Ok(witness) => witness,
         Err(fault) => return Err(search_status(fault, states)),
     };
-    Ok(wcd_report(alloc, &domain.actions, found, &witness)?)
+    Ok(wcd_report(alloc, world, found, &witness)?)
 }
 
-/// The report that answers the question about a world that was read.
-fn report_on(
+/// The report that answers the question about a world.
+fn report_of(
     alloc: Global,
     question: Question,
     states: u32,
-    domain: &Domain,
-    problem: &Problem,
-    goals: &[Goal],
-) -> Result<String, Status>
-    requires states { 1 ≤ states }
-    requires form { IsFirstForm domain.now }
-    requires few_actions { length domain.now.actions ≤ 2 ^ 21 }
-    requires few_goals { length goals.now ≤ 32 }
+    world: &Grounded<'_>,
+) -> Result<Vec<u8>, Status>
+    requires { 1 ≤ states }
     ensures report { IfOk result
-        (λ text. IsReportOn question domain.now problem.now goals.now (string_bytes text)) }
-    ensures cause { IfErr result (HasAnswerCause states domain.now problem.now goals.now) }
+        (λ text. IsReportOn question world.now.typed world.now.goals text.items) }
+    ensures cause { IfErr result
+        (HasSearchCause states (ground_task world.now.typed world.now.goals)) }
 {
-    let task = task_of(alloc, domain, problem, goals)?;
-    let found = match costs(alloc, &task, states) {
+    let found = match costs(alloc, world.task(), states) {
         Ok(found) => found,
         Err(fault) => return Err(search_status(fault, states)),
     };
     match question {
-        Question::Costs => Ok(cost_report(alloc, &domain.actions, &found)?),
-        Question::Wcd => wcd_on(alloc, &task, states, domain, &found),
+        Question::Costs => Ok(cost_report(alloc, world, &found)?),
+        Question::Wcd => wcd_on(alloc, world, states, &found),
     }
+}
+
+/// The report that answers the question about goals over a typed domain and problem.
+fn report_on(
+    alloc: Global,
+    question: Question,
+    states: u32,
+    typed: &Typed,
+    goals: &[Goal],
+) -> Result<Vec<u8>, Status>
+    requires states { 1 ≤ states }
+    requires task { IsTypedTask typed.now }
+    requires few_goals { length goals.now ≤ 32 }
+    ensures report { IfOk result (λ text. IsReportOn question typed.now goals.now text.items) }
+    ensures few { OnOk result (HasFew typed.now) }
+    ensures cause { IfErr result (HasAnswerCause states typed.now goals.now) }
+{
+    let world = world_of(alloc, typed, goals)?;
+    report_of(alloc, question, states, &world)
 }
 
 /// The report that answers the question about the files of a job.
@@ -142,8 +163,7 @@ fn report_text<F: Shelf>(
     requires { 1 ≤ job.now.limits.states }
     ensures text { IfOk result
         (λ text. IsReportText question (F.told shelf.old) job.now text.items) }
-    ensures taken { OnOk result ((d : PlainDomain) × (p : PlainProblem) × (goals : List (List (List ℕ)))
-        × TakesFiles (F.told shelf.old) job.now d p goals) }
+    ensures taken { OnOk result (HasTakenFiles (F.told shelf.old) job.now) }
     ensures cause { IfErr result
         (HasFilesCause (F.told shelf.old) (F.faults shelf.old) (F.faults shelf.new) job.now) }
     ensures files_stay { (x : List ℕ) → F.told shelf.new x ≡ F.told shelf.old x }
@@ -151,15 +171,8 @@ fn report_text<F: Shelf>(
     ensures quiet { OnOk result (IsQuiet (F.faults shelf.old) (F.faults shelf.new)) }
 {
     let inputs = read_inputs(alloc, shelf, job)?;
-    let report = report_on(
-        alloc,
-        question,
-        job.limits.states,
-        &inputs.domain,
-        &inputs.problem,
-        &inputs.goals,
-    )?;
-    Ok(report.into_bytes())
+    let states = job.limits.states;
+    report_on(alloc, question, states, &inputs.typed, &inputs.goals)
 }
 
 /// What the command of a job prints.

@@ -1,14 +1,16 @@
 ghost use Rattle.std.specs.Prelude.{◌≡◌, ◌++◌, IfOk, OnOk, string_bytes, codes};
 ghost use Rattle.std.specs.Fmt.{decimal};
-ghost use Rattle.grd_program.specs.Errors.{role_text, usage_text, goals_text, feature_text, place_text, tree_text, pddl_text, refusal_text, error_text, IsPlainRefusal, IsPlainStatus};
+ghost use Rattle.grd_program.specs.Errors.{role_text, usage_text, goals_text, feature_text, place_text, tree_text, pddl_text, kind_text, typing_text, count_text, refusal_text, error_text, IsPlainRefusal, IsPlainStatus};
 
 use crate::report::number_of;
 use crate::status::{LimitFault, Refusal, Status, Target, UsageFault};
 use goal_files::GoalFault;
 use grd_base::{FileRole, OutOfMemory};
+use ground_all::GroundFault;
 use pddl_reader::{Feature, PddlFault, TreeFault};
 use std::alloc::Global;
 use std::fmt::Write;
+use type_check::{TypeFault, TypeKind};
 
 /// The line of want of memory. It is a constant, so that it takes none.
 pub(crate) const OUT_OF_MEMORY: &[u8] = b"grd: out of memory\n";
@@ -45,10 +47,11 @@ fn push_refusal(line: &mut String, refusal: &Refusal) -> Result<(), OutOfMemory>
 {
     line.push_str("grd: ")?;
     match refusal {
-        Refusal::NotYet(role) => push_role(line, role, ": not yet read")?,
         Refusal::TooLong(role, limit) => push_too_long(line, role, *limit)?,
         Refusal::Pddl(role, fault) => push_pddl(line, role, fault)?,
+        Refusal::Typing(fault) => push_typing(line, fault)?,
         Refusal::Goals(fault) => push_goals(line, fault)?,
+        Refusal::Count(fault) => push_count(line, fault)?,
     }
     line.push_str("\n")?;
     Ok(())
@@ -160,6 +163,48 @@ fn feature_name(feature: &Feature) -> &'static str
         Feature::NegativePrecondition => "negative precondition",
         Feature::NegativeInit => "negative initial atom",
     }
+}
+
+/// Writes what is at fault in the typing, by its place.
+fn push_typing(line: &mut String, fault: &TypeFault) -> Result<(), OutOfMemory>
+    ensures { OnOk result
+        (string_bytes line.new ≡ string_bytes line.old ++ typing_text fault.now) }
+{
+    push_role(line, &fault.file, ": ")?;
+    push_place(line, fault.at, kind_name(&fault.kind))
+}
+
+/// What a broken rule of typing is called in messages.
+fn kind_name(kind: &TypeKind) -> &'static str
+    ensures { result.now ≡ kind_text kind.now }
+{
+    match kind {
+        TypeKind::UnknownType => "unknown type",
+        TypeKind::TypeCycle => "type cycle",
+        TypeKind::Doubled => "doubled",
+        TypeKind::UnknownPredicate => "unknown predicate",
+        TypeKind::WrongCount => "wrong count",
+        TypeKind::WrongType => "wrong type",
+        TypeKind::UnknownName => "unknown name",
+        TypeKind::UnboundVariable => "unbound variable",
+        TypeKind::OtherDomain => "other domain",
+        TypeKind::TooManyObjects => "too many objects",
+        TypeKind::TooManyParameters => "too many parameters",
+        TypeKind::TooManyLiterals => "too many literals",
+    }
+}
+
+/// Writes what a world has too many of.
+fn push_count(line: &mut String, fault: &GroundFault) -> Result<(), OutOfMemory>
+    requires { IsPlainRefusal (Refusal.Count fault.now) }
+    ensures { OnOk result (string_bytes line.new ≡ string_bytes line.old ++ count_text fault.now) }
+{
+    match fault {
+        GroundFault::TooManyAtoms(count) => write!(line, "{count} atoms, limit 3072")?,
+        GroundFault::TooManyActions(count) => write!(line, "{count} actions, limit 1048576")?,
+        GroundFault::OutOfMemory => {}
+    }
+    Ok(())
 }
 
 /// Writes what is at fault in a goals file.

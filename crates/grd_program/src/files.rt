@@ -1,5 +1,6 @@
 ghost use Rattle.std.specs.Prelude.{◌≡◌, ℕ, ◌^◌, ◌≤◌, List, length, Bool, IfOk, IfErr, OnOk};
 ghost use Rattle.pddl_reader.specs.Spelling.{IsDomainText, IsProblemText};
+ghost use Rattle.type_check.specs.Typing.{IsShortDomain, IsShortProblem, IsTypedTask};
 ghost use Rattle.grd_io.specs.Bytes.{IsWholeFile};
 ghost use Rattle.grd_program.specs.Causes.{HasText, HasReadCause, HasDomainCause, HasProblemCause, HasGoalsCause, SpellsOnlyGoals, IsQuiet};
 ghost use Rattle.grd_program.specs.Runs.{SpellsOnly, TakesTexts, HasTextsCause};
@@ -7,11 +8,12 @@ ghost use Rattle.pddl_print.specs.Spells.{IsSpelledDomain, IsSpelledProblem};
 
 use crate::job::Job;
 use crate::status::{Refusal, Status};
-use goal_files::{Goal, GoalFault, read_goals};
+use goal_files::{GoalFault, read_goals};
 use grd_base::FileRole;
 use grd_io::{ReadFault, Shelf, read_whole};
 use pddl_reader::{Domain, PddlFault, Problem, read_domain, read_problem};
 use std::alloc::Global;
+use type_check::{Goal, Typed};
 
 /// The most bytes of an input file.
 const FILE_LIMIT: u64 = 1 << 20;
@@ -67,7 +69,8 @@ pub(crate) fn read_texts<F: Shelf>(alloc: Global, shelf: &mut F, job: &Job) -> R
     ensures taken { IfOk result (λ t. TakesTexts (F.told shelf.old) job.now t.domain t.problem) }
     ensures is_domain { IfOk result (λ t. IsSpelledDomain t.domain) }
     ensures is_problem { IfOk result (λ t. IsSpelledProblem t.problem) }
-    ensures few_actions { IfOk result (λ t. length t.domain.actions ≤ 2 ^ 21) }
+    ensures short_domain { IfOk result (λ t. IsShortDomain t.domain) }
+    ensures short_problem { IfOk result (λ t. IsShortProblem t.problem) }
     ensures cause { IfErr result
         (HasTextsCause (F.told shelf.old) (F.faults shelf.old) (F.faults shelf.new) job.now) }
     ensures files_stay { (x : List ℕ) → F.told shelf.new x ≡ F.told shelf.old x }
@@ -83,7 +86,7 @@ pub(crate) fn read_texts<F: Shelf>(alloc: Global, shelf: &mut F, job: &Job) -> R
 fn domain_of<F: Shelf>(alloc: Global, shelf: &mut F, name: &str) -> Result<Domain, Status>
     ensures spelled { IfOk result (λ d. HasText (F.told shelf.old name.now) (SpellsOnly IsDomainText d)) }
     ensures is_spelled { IfOk result IsSpelledDomain }
-    ensures few_actions { IfOk result (λ d. length d.actions ≤ 2 ^ 21) }
+    ensures short { IfOk result IsShortDomain }
     ensures cause { IfErr result
         (HasDomainCause (F.told shelf.old name.now) (F.faults shelf.old) (F.faults shelf.new) name.now) }
     ensures files_stay { (x : List ℕ) → F.told shelf.new x ≡ F.told shelf.old x }
@@ -101,6 +104,7 @@ fn domain_of<F: Shelf>(alloc: Global, shelf: &mut F, name: &str) -> Result<Domai
 fn problem_of<F: Shelf>(alloc: Global, shelf: &mut F, name: &str) -> Result<Problem, Status>
     ensures spelled { IfOk result (λ p. HasText (F.told shelf.old name.now) (SpellsOnly IsProblemText p)) }
     ensures is_spelled { IfOk result IsSpelledProblem }
+    ensures short { IfOk result IsShortProblem }
     ensures cause { IfErr result
         (HasProblemCause (F.told shelf.old name.now) (F.faults shelf.old) (F.faults shelf.new) name.now) }
     ensures files_stay { (x : List ℕ) → F.told shelf.new x ≡ F.told shelf.old x }
@@ -114,25 +118,26 @@ fn problem_of<F: Shelf>(alloc: Global, shelf: &mut F, name: &str) -> Result<Prob
     }
 }
 
-/// The goals that a file spells over a domain.
+/// The goals that a file spells over a typed domain and problem.
 pub(crate) fn goals_of<F: Shelf>(
     alloc: Global,
     shelf: &mut F,
     name: &str,
-    domain: &Domain,
+    typed: &Typed,
 ) -> Result<Vec<Goal>, Status>
+    requires { IsTypedTask typed.now }
     ensures spelled { IfOk result
         (λ goals. HasText (F.told shelf.old name.now)
-        (λ text. SpellsOnlyGoals domain.now text goals.items)) }
+        (λ text. SpellsOnlyGoals typed.now text goals.items)) }
     ensures few { IfOk result (λ goals. length goals.items ≤ 32) }
     ensures cause { IfErr result
-        (HasGoalsCause (F.told shelf.old name.now) (F.faults shelf.old) (F.faults shelf.new) name.now domain.now) }
+        (HasGoalsCause (F.told shelf.old name.now) (F.faults shelf.old) (F.faults shelf.new) name.now typed.now) }
     ensures files_stay { (x : List ℕ) → F.told shelf.new x ≡ F.told shelf.old x }
     ensures later { (x : List ℕ) (w : Bool) → F.faults shelf.old x w ≤ F.faults shelf.new x w }
     ensures quiet { OnOk result (IsQuiet (F.faults shelf.old) (F.faults shelf.new)) }
 {
     let text = text_of(alloc, shelf, FileRole::Goals, name)?;
-    match read_goals(alloc, domain, &text) {
+    match read_goals(alloc, typed, &text) {
         Ok(goals) => Ok(goals),
         Err(fault) => Err(goals_status(fault)),
     }

@@ -5,17 +5,17 @@ mod answer;
 mod command;
 mod errors;
 mod files;
-mod forms;
 mod job;
-mod names;
 mod report;
 mod run;
 mod show;
+#[cfg(test)]
+mod slow_tests;
 mod status;
 #[cfg(test)]
 mod tests;
+mod typed;
 mod words;
-mod world;
 
 use grd_io::{HostShelf, HostSink};
 use run::run;

@@ -1,7 +1,9 @@
 use crate::command::OptionName;
 use goal_files::GoalFault;
 use grd_base::{FileRole, GoalId, OutOfMemory};
+use ground_all::GroundFault;
 use pddl_reader::PddlFault;
+use type_check::TypeFault;
 
 /// How a run ended.
 #[derive(Clone, Copy, Debug, PartialEq, Eq)]
@@ -21,17 +23,19 @@ pub enum Status {
     OutOfMemory,
 }
 
-/// Why a file is refused.
+/// Why files are refused.
 #[derive(Clone, Copy, Debug, PartialEq, Eq)]
 pub enum Refusal {
-    /// The domain or the problem is of a form that the command does not take yet.
-    NotYet(FileRole),
     /// The file has more than so many bytes.
     TooLong(FileRole, u64),
     /// The domain's or the problem's text is at fault. The fault is never want of memory.
     Pddl(FileRole, PddlFault),
+    /// The domain and the problem are not well typed.
+    Typing(TypeFault),
     /// The goals file gives no goals. The fault is never want of memory.
     Goals(GoalFault),
+    /// The world has too many atoms or actions. The fault is never want of memory.
+    Count(GroundFault),
 }
 
 /// Why words are refused. A number is the place of a word behind the program's name, from 1.

@@ -4,27 +4,28 @@ use crate::run::run;
 use crate::status::Status;
 use grd_io::{MemoryShelf, MemorySink};
 use std::alloc::{AllocError, Global};
+use std::fmt::Write;
 use std::process::Abort;
 use std::str;
 use std::test::Fail;
 
 /// The texts of the three files.
 #[derive(Clone, Copy)]
-struct Texts<'a> {
-    domain: &'a str,
-    problem: &'a str,
-    goals: &'a str,
+pub(crate) struct Texts<'a> {
+    pub(crate) domain: &'a str,
+    pub(crate) problem: &'a str,
+    pub(crate) goals: &'a str,
 }
 
 /// The numbers of the calls that fail, from 1. With 0 none does.
 #[derive(Clone, Copy)]
-struct Failing {
+pub(crate) struct Failing {
     shelf: u64,
     out: u64,
     err: u64,
 }
 
-const NO_FAILURE: Failing = Failing {
+pub(crate) const NO_FAILURE: Failing = Failing {
     shelf: 0,
     out: 0,
     err: 0,
@@ -32,9 +33,9 @@ const NO_FAILURE: Failing = Failing {
 
 /// How a run ended, and what it wrote.
 #[derive(Drop)]
-struct Outcome {
+pub(crate) struct Outcome {
     status: Status,
-    out: String,
+    pub(crate) out: String,
     err: String,
 }
 
@@ -81,7 +82,12 @@ fn run_without_files(alloc: Global, words: &str) -> Result<Outcome, Fail> {
 }
 
 /// Runs words over the files d, p and g.
-fn run_on(alloc: Global, words: &str, texts: Texts<'_>, failing: Failing) -> Result<Outcome, Fail> {
+pub(crate) fn run_on(
+    alloc: Global,
+    words: &str,
+    texts: Texts<'_>,
+    failing: Failing,
+) -> Result<Outcome, Fail> {
     let files = vec![in alloc;
         file(alloc, "d", texts.domain)?,
         file(alloc, "p", texts.problem)?,
@@ -100,7 +106,7 @@ fn expect(rt: &impl Abort, case: &str, outcome: &Outcome, code: u8, out: &str, e
 
 const COST: &str = "cost --domain d --problem p --goals g";
 
-const WCD: &str = "wcd --domain d --problem p --goals g";
+pub(crate) const WCD: &str = "wcd --domain d --problem p --goals g";
 
 const SHOW: &str = "show --domain d --problem p";
 
@@ -158,6 +164,52 @@ const LOOSE: &str = "(define (domain loose) (:requirements :typing :strips)
 
 const LOOSE_START: &str = "(define (problem p) (:init) (:requirements :strips) (:domain loose))";
 
+const GRID: &str = "(define (domain grid)
+(:requirements :strips :typing)
+(:types cell - object)
+(:predicates (at ?a - cell) (connected ?a - cell ?b - cell))
+(:action move
+:parameters (?a - cell ?b - cell)
+:precondition (and (at ?a) (connected ?a ?b))
+:effect (and (not (at ?a)) (at ?b)))
+)
+";
+
+/// The rows of the grid, and its columns.
+const SIDE: u32 = 5;
+
+/// Writes the neighbours of a cell: above, below, left and right.
+fn push_neighbours(text: &mut String, row: u32, column: u32) -> Result<(), Fail> {
+    if row > 1 {
+        write!(text, " (connected c{row}-{column} c{}-{column})", row - 1)?;
+    }
+    if row < SIDE {
+        write!(text, " (connected c{row}-{column} c{}-{column})", row + 1)?;
+    }
+    if column > 1 {
+        write!(text, " (connected c{row}-{column} c{row}-{})", column - 1)?;
+    }
+    if column < SIDE {
+        write!(text, " (connected c{row}-{column} c{row}-{})", column + 1)?;
+    }
+    Ok(())
+}
+
+/// The problem of the grid, whose cells stand row by row.
+fn grid_start(alloc: Global) -> Result<String, Fail> {
+    let mut cells = String::new(alloc);
+    let mut init = String::from_str(alloc, "(at c3-1)")?;
+    for row in 1..SIDE + 1 {
+        for column in 1..SIDE + 1 {
+            write!(cells, " c{row}-{column} - cell")?;
+            push_neighbours(&mut init, row, column)?;
+        }
+    }
+    Ok(format!(in alloc;
+        "(define (problem made)\n(:domain grid)\n(:objects{cells})\n(:init {init})\n(:goal (and)))\n"
+    )?)
+}
+
 #[test]
 fn costs_and_plans_are_printed(rt: HostRuntime) -> Result<(), Fail> {
     for (domain, problem, goals, report) in [
@@ -205,6 +257,25 @@ fn costs_and_plans_are_printed(rt: HostRuntime) -> Result<(), Fail> {
 }
 
 #[test]
+fn costs_over_a_grid_are_printed(rt: HostRuntime) -> Result<(), Fail> {
+    let problem = grid_start(rt.alloc())?;
+    for (goals, report) in [
+        ("(at c3-2)\n", "goals 1\ngoal 1 cost 1 (move c3-1 c3-2)\n"),
+        ("(connected c1-1 c1-2)\n", "goals 1\ngoal 1 cost 0\n"),
+        ("(connected c1-1 c1-3)\n", "goals 1\ngoal 1 cost none\n"),
+    ] {
+        let texts = Texts {
+            domain: GRID,
+            problem: problem.as_str(),
+            goals,
+        };
+        let outcome = run_on(rt.alloc(), COST, texts, NO_FAILURE)?;
+        expect(&rt, goals, &outcome, 0, report, "");
+    }
+    Ok(())
+}
+
+#[test]
 fn longest_common_sequences_are_printed(rt: HostRuntime) -> Result<(), Fail> {
     for (goals, report) in [
         (
@@ -239,18 +310,18 @@ fn longest_common_sequences_are_printed(rt: HostRuntime) -> Result<(), Fail> {
     Ok(())
 }
 
-/// So many lines with the same goal.
-fn equal_goals(alloc: Global, count: usize) -> Result<String, AllocError> {
-    let mut goals = String::new(alloc);
+/// The text, so many times.
+fn repeated(alloc: Global, text: &str, count: usize) -> Result<String, AllocError> {
+    let mut whole = String::new(alloc);
     for _ in 0..count {
-        goals.push_str("(atl)\n")?;
+        whole.push_str(text)?;
     }
-    Ok(goals)
+    Ok(whole)
 }
 
 #[test]
 fn goals_are_at_most_32(rt: HostRuntime) -> Result<(), Fail> {
-    let goals = equal_goals(rt.alloc(), 32)?;
+    let goals = repeated(rt.alloc(), "(atl)\n", 32)?;
     let outcome = run_on(rt.alloc(), WCD, fork(goals.as_str()), NO_FAILURE)?;
     assert_eq!(rt; outcome.status, Status::Done);
     // Which two of the goals are named is not promised.
@@ -261,7 +332,7 @@ fn goals_are_at_most_32(rt: HostRuntime) -> Result<(), Fail> {
             .starts_with("goals 32\ngoal 1 cost 3 (a) (b) (l)\n")
     );
     assert!(rt; outcome.out.as_str().contains("\nwcd 3 goals "));
-    let goals = equal_goals(rt.alloc(), 33)?;
+    let goals = repeated(rt.alloc(), "(atl)\n", 33)?;
     let outcome = run_on(rt.alloc(), WCD, fork(goals.as_str()), NO_FAILURE)?;
     expect(
         &rt,
@@ -479,9 +550,30 @@ fn run_on_faults(alloc: Global, words: &str, domain: &str, problem: &str) -> Res
     run_on(alloc, words, texts, NO_FAILURE)
 }
 
-const TYPED: &str = "(define (domain fork) (:types t) (:predicates (atl)))";
+/// A domain that is ill typed, and so large that it is refused over 102 objects.
+const ILL_TYPED: &str = "(define (domain many) (:constants c - t) (:predicates (p ?x ?y) (q))
+(:action a :parameters (?x ?y ?z) :effect (p ?x ?y)))";
 
-const OBJECTS: &str = "(define (problem p) (:domain fork) (:objects o) (:init (at0)))";
+/// With an atom for each two objects, and an action for each three.
+const LARGE: &str = "(define (domain many) (:predicates (p ?x ?y) (q))
+(:action a :parameters (?x ?y ?z) :effect (p ?x ?y)))";
+
+/// With an atom for each two objects, and an action for each.
+const PAIRS: &str = "(define (domain many) (:predicates (p ?x ?y) (q))
+(:action a :parameters (?x) :effect (p ?x ?x)))";
+
+/// With one atom, and an action for each three objects.
+const TRIPLES: &str = "(define (domain many) (:predicates (p) (q))
+(:action a :parameters (?x ?y ?z) :effect (p)))";
+
+/// A problem with so many objects, from o0 on.
+fn many_objects(alloc: Global, count: u32) -> Result<String, Fail> {
+    let mut objects = String::new(alloc);
+    for i in 0..count {
+        write!(objects, " o{i}")?;
+    }
+    Ok(format!(in alloc; "(define (problem p) (:domain many) (:objects{objects}) (:init (q)))")?)
+}
 
 #[test]
 fn faulty_files_are_told_by_their_places(rt: HostRuntime) -> Result<(), Fail> {
@@ -495,8 +587,8 @@ fn faulty_files_are_told_by_their_places(rt: HostRuntime) -> Result<(), Fail> {
             FORK_START,
             "grd: domain: byte 38: unsupported numeric effect\n",
         ),
-        (TYPED, "; (define", "grd: problem: empty\n"),
-        (TYPED, ")", "grd: problem: byte 0: unopened\n"),
+        (ILL_TYPED, "; (define", "grd: problem: empty\n"),
+        (ILL_TYPED, ")", "grd: problem: byte 0: unopened\n"),
         (
             FORK,
             "(define (problem \u{e9}))",
@@ -526,62 +618,121 @@ fn faulty_files_are_told_by_their_places(rt: HostRuntime) -> Result<(), Fail> {
     Ok(())
 }
 
+/// A domain, a problem, and what is told of them.
+const BROKEN_RULES: &str = "\
+(define (domain d) (:constants c - t))|(define (problem p) (:domain d) (:init))|domain: byte 35: unknown type\n\
+(define (domain d) (:types a - b b - a))|(define (problem p) (:domain d) (:init))|domain: byte 27: type cycle\n\
+(define (domain d) (:predicates (p) (P)))|(define (problem p) (:domain d) (:init))|domain: byte 37: doubled\n\
+(define (domain d) (:action a :effect (p)))|(define (problem p) (:domain d) (:init))|domain: byte 39: unknown predicate\n\
+(define (domain d) (:predicates (p ?x)))|(define (problem p) (:domain d) (:init (p)))|problem: byte 40: wrong count\n\
+(define (domain d) (:types a b) (:predicates (p ?x - a)))|(define (problem p) (:domain d) (:objects o - b) (:init (p o)))|problem: byte 59: wrong type\n\
+(define (domain d) (:predicates (p ?x)) (:action a :effect (p o)))|(define (problem p) (:domain d) (:objects o) (:init))|domain: byte 62: unknown name\n\
+(define (domain d) (:predicates (p ?x)) (:action a :effect (p ?x)))|(define (problem p) (:domain d) (:init))|domain: byte 62: unbound variable\n\
+(define (domain d))|(define (problem p) (:domain e) (:init))|problem: byte 29: other domain\n\
+(define (domain d) (:predicates (p ?a ?b ?c ?d ?e ?f ?g ?h ?i)))|(define (problem p) (:domain d) (:init))|domain: byte 33: too many parameters\n\
+";
+
 #[test]
-fn first_file_that_is_not_yet_read_is_told(rt: HostRuntime) -> Result<(), Fail> {
-    for (domain, problem, file) in [
-        (TYPED, OBJECTS, "domain"),
-        ("(define (domain fork) (:types object))", OBJECTS, "domain"),
-        ("(define (domain fork) (:constants c))", OBJECTS, "domain"),
-        (
-            "(define (domain fork) (:predicates (p ?x)))",
-            OBJECTS,
-            "domain",
-        ),
-        (
-            "(define (domain fork) (:action a :parameters (?x)))",
-            OBJECTS,
-            "domain",
-        ),
-        (
-            "(define (domain fork) (:predicates (p) (P)))",
-            OBJECTS,
-            "domain",
-        ),
-        (
-            "(define (domain fork) (:action a) (:action A))",
-            OBJECTS,
-            "domain",
-        ),
-        (
-            "(define (domain fork) (:action a :effect (p)))",
-            OBJECTS,
-            "domain",
-        ),
-        (
-            "(define (domain fork) (:predicates (p)) (:action a :precondition (p c)))",
-            OBJECTS,
-            "domain",
-        ),
-        (FORK, OBJECTS, "problem"),
-        (
-            FORK,
-            "(define (problem p) (:domain spoon) (:init (at0)))",
-            "problem",
-        ),
-        (
-            FORK,
-            "(define (problem p) (:domain fork) (:init (at9)))",
-            "problem",
-        ),
-        (
-            FORK,
-            "(define (problem p) (:domain fork) (:init (at0 o)))",
-            "problem",
-        ),
-    ] {
-        let line = format!(in rt.alloc(); "grd: {file}: not yet read\n")?;
+fn broken_rules_of_typing_are_told(rt: HostRuntime) -> Result<(), Fail> {
+    for case in BROKEN_RULES.lines() {
+        let (domain, rest) = case.split_once('|').ok_or("a bar")?;
+        let (problem, what) = rest.split_once('|').ok_or("a bar")?;
+        let line = format!(in rt.alloc(); "grd: {what}\n")?;
         let outcome = run_on_faults(rt.alloc(), COST, domain, problem)?;
-        expect(&rt, domain, &outcome, 1, "", line.as_str());
+        expect(&rt, what, &outcome, 1, "", line.as_str());
+    }
+    let literals = repeated(rt.alloc(), " (q)", 65)?;
+    let domain = format!(in rt.alloc();
+        "(define (domain many) (:predicates (q)) (:action a :effect (and{literals})))"
+    )?;
+    let problem = many_objects(rt.alloc(), 1025)?;
+    for (domain, line) in [
+        (domain.as_str(), "grd: domain: byte 49: too many literals\n"),
+        (PAIRS, "grd: problem: byte 5079: too many objects\n"),
+    ] {
+        let outcome = run_on_faults(rt.alloc(), COST, domain, problem.as_str())?;
+        expect(&rt, line, &outcome, 1, "", line);
+    }
+    Ok(())
+}
+
+#[test]
+fn worlds_are_refused_by_their_counts(rt: HostRuntime) -> Result<(), Fail> {
+    for (domain, count, line) in [
+        (PAIRS, 55, ""),
+        (PAIRS, 56, "grd: 3136 atoms, limit 3072\n"),
+        (TRIPLES, 101, ""),
+        (TRIPLES, 102, "grd: 1061208 actions, limit 1048576\n"),
+    ] {
+        let problem = many_objects(rt.alloc(), count)?;
+        let texts = Texts {
+            domain,
+            problem: problem.as_str(),
+            goals: "(q)",
+        };
+        let outcome = run_on(rt.alloc(), COST, texts, NO_FAILURE)?;
+        if line.is_empty() {
+            expect(&rt, COST, &outcome, 0, "goals 1\ngoal 1 cost 0\n", "");
+        } else {
+            expect(&rt, line, &outcome, 1, "", line);
+        }
+    }
+    Ok(())
+}
+
+/// The words of `cost` with the least limit.
+const NARROW: &str = "cost --domain d --problem p --goals g --max-states 1";
+
+// What comes first is told, where all that comes later is at fault too.
+#[test]
+fn first_of_all_faults_is_told(rt: HostRuntime) -> Result<(), Fail> {
+    let objects = many_objects(rt.alloc(), 102)?;
+    let large = objects.as_str();
+    let failing = Failing {
+        out: 1,
+        ..NO_FAILURE
+    };
+    for (domain, problem, goals, code, line) in [
+        ("(", "(", "(", 1, "grd: domain: byte 0: unclosed\n"),
+        (ILL_TYPED, "(", "(", 1, "grd: problem: byte 0: unclosed\n"),
+        (
+            ILL_TYPED,
+            large,
+            "(",
+            1,
+            "grd: domain: byte 38: unknown type\n",
+        ),
+        (LARGE, large, "(", 1, "grd: goals: line 1: shape\n"),
+        (
+            LARGE,
+            large,
+            "(p o0 o1)",
+            1,
+            "grd: 10404 atoms, limit 3072\n",
+        ),
+        (
+            TRIPLES,
+            large,
+            "(p)",
+            1,
+            "grd: 1061208 actions, limit 1048576\n",
+        ),
+        (
+            FORK,
+            FORK_START,
+            "(atl)",
+            4,
+            "grd: limit: more than 1 states near goal 1\n",
+        ),
+        (FORK, FORK_START, "(at0)", 6, "grd: output: write failed\n"),
+    ] {
+        let texts = Texts {
+            domain,
+            problem,
+            goals,
+        };
+        let outcome = run_on(rt.alloc(), NARROW, texts, failing)?;
+        expect(&rt, line, &outcome, code, "", line);
     }
     Ok(())
 }

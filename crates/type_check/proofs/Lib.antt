@@ -1,13 +1,14 @@
-mod Known
+pub mod Passed
+pub mod Known
 mod OneTyped
 mod ObjectPlaces
 mod Pairs
-mod Counts
+pub mod Counts
 mod ChainLaws
 mod NameLaws
 mod NameIndex
 mod FirstFaults
-mod NameLists
+pub mod NameLists
 mod TermLaws
 mod LiteralLaws
 mod ParentLaws
@@ -19,3 +20,4 @@ mod ActionLaws
 mod EntryLaws
 mod ProblemLaws
 mod DomainLaws
+pub mod TypedTasks

@@ -16,7 +16,7 @@ use Rattle.type_check.specs.Tables.{HasFault}
 use Rattle.type_check.specs.declared.faults.TypeFault.{TypeFault}
 use Rattle.type_check.specs.declared.faults.CheckTypeFault.{CheckTypeFault}
 use Rattle.type_check.specs.declared.faults.CheckTypeFault.TheVariants.{Typing, OutOfMemory}
-use Rattle.type_check.proofs.Known.{holds_between}
+use Rattle.type_check.proofs.Passed.{holds_between}
 
 -- ---- rising lists with the same members
 

@@ -20,27 +20,32 @@ module _ (d : PlainDomain) (p : PlainProblem) where
   atoms = flat_map (literal_checks Problem d [] (all_objects d p)) p.init
 
   pub domain_fault : (fault : CheckTypeFault) → HasFault d (is_for_domain d p ∷ []) fault → HasFault d (problem_checks d p) fault
+  unfolding problem_checks
   domain_fault fault h = fault_front d (is_for_domain d p ∷ []) (objects ++ count_checks d p ++ atoms) fault h
 
   module _ (is_for : Passes d (is_for_domain d p)) where
     pub objects_fault : (fault : CheckTypeFault) → HasFault d objects fault → HasFault d (problem_checks d p) fault
+    unfolding problem_checks
     objects_fault fault h =
         fault_later d (is_for_domain d p) (objects ++ count_checks d p ++ atoms) fault is_for
         (fault_front d (objects ++ count_checks d p) atoms fault (fault_front d objects (count_checks d p) fault h))
 
     module _ (are_typed : All (Passes d) objects) where
       pub count_fault : (fault : CheckTypeFault) → HasFault d (count_checks d p) fault → HasFault d (problem_checks d p) fault
+      unfolding problem_checks
       count_fault fault h =
           fault_later d (is_for_domain d p) (objects ++ count_checks d p ++ atoms) fault is_for
           (fault_front d (objects ++ count_checks d p) atoms fault (fault_behind d objects (count_checks d p) fault are_typed h))
 
       module _ (are_few : All (Passes d) (count_checks d p)) where
         pub atoms_fault : (fault : CheckTypeFault) → HasFault d atoms fault → HasFault d (problem_checks d p) fault
+        unfolding problem_checks
         atoms_fault fault h =
             fault_later d (is_for_domain d p) (objects ++ count_checks d p ++ atoms) fault is_for
             (fault_behind d (objects ++ count_checks d p) atoms fault (All-append (Passes d) objects (count_checks d p) are_typed are_few) h)
 
         pub problem_passes : All (Passes d) atoms → All (Passes d) (problem_checks d p)
+        unfolding problem_checks
         problem_passes h =
             All-cons (Passes d) (is_for_domain d p) (objects ++ count_checks d p ++ atoms) is_for
             (All-append (Passes d) (objects ++ count_checks d p) atoms (All-append (Passes d) objects (count_checks d p) are_typed are_few) h)

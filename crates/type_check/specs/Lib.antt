@@ -1,5 +1,6 @@
 pub mod Types
 pub mod Values
+pub mod Numbered
 pub mod Checks
 pub mod Rules
 pub mod Typing

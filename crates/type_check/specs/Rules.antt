@@ -114,7 +114,7 @@ action_checks d before a =
     ++ few_literals a
     ∷ flat_map (literal_checks Domain d a.parameters d.constants) (literals_of a))
 
-abbrev pub domain_checks : PlainDomain → List Check
+unfoldable pub domain_checks : PlainDomain → List Check
 domain_checks d =
     checks_of_each type_checks (entries d)
     ++ names_checks Domain d [] d.constants
@@ -139,14 +139,14 @@ count_checks d p =
 abbrev pub is_for_domain : PlainDomain → PlainProblem → Check
 is_for_domain d p = record { need = OneOf (d.name.text ∷ []) p.domain.text; fault = fault_at OtherDomain Problem p.domain.at }
 
-abbrev pub problem_checks : PlainDomain → PlainProblem → List Check
+unfoldable pub problem_checks : PlainDomain → PlainProblem → List Check
 problem_checks d p =
     is_for_domain d p
     ∷ (names_checks Problem d (names_of d.constants) p.objects
     ++ count_checks d p
     ++ flat_map (literal_checks Problem d [] (all_objects d p)) p.init)
 
-abbrev pub checks_of : PlainDomain → PlainProblem → List Check
+unfoldable pub checks_of : PlainDomain → PlainProblem → List Check
 checks_of d p = domain_checks d ++ problem_checks d p
 
 -- every rule holds of the domain and the problem

@@ -1,5 +1,6 @@
 -- What contracts see of a domain and a problem that are well typed, and of what is ground in them.
-use Rattle.std.specs.Prelude.{ℕ, Bool, List}
+use Rattle.std.specs.Prelude.{ℕ, Bool, ◌==◌, ◌&&◌, List}
+use Rattle.std.specs.Str.{bytes_eq}
 use Rattle.pddl_reader.specs.Forms.{Word}
 use Rattle.type_check.specs.declared.typed.TypedTerm.{TypedTerm}
 
@@ -25,6 +26,9 @@ pub record PlainTypedSchema : Type 0 where
 pub record PlainGroundAtom : Type 0 where
   pub predicate : ℕ
   pub objects : List ℕ
+
+abbrev pub is_same_atom : PlainGroundAtom → PlainGroundAtom → Bool
+is_same_atom a b = a.predicate == b.predicate && bytes_eq a.objects b.objects
 
 pub record PlainGroundName : Type 0 where
   pub schema : ℕ

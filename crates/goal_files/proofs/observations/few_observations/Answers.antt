@@ -1,6 +1,6 @@
 use Rattle.std.proofs.Common.{arith}
 use Rattle.goal_files.specs.Observations.{SpellsAction}
-use Rattle.goal_files.proofs.TypedLines.{few_spelled}
+use Rattle.goal_files.proofs.LineLaws.{few_spelled}
 use Rattle.goal_files.proofs.observations.few_observations.Goals as goal
 
 pub overflow_cast-result : goal.overflow_cast-result

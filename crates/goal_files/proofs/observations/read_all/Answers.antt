@@ -1,7 +1,7 @@
 use Rattle.std.proofs.Common.{◌∙◌}
 use Rattle.goal_files.specs.Observations.{SpellsAction}
-use Rattle.goal_files.specs.TypedReading.{IsObsLineFault}
-use Rattle.goal_files.proofs.TypedAnswers.{text_spelled, text_fault}
+use Rattle.goal_files.specs.LineReading.{IsObsLineFault}
+use Rattle.goal_files.proofs.LineAnswers.{text_spelled, text_fault}
 use Rattle.goal_files.proofs.ObservationAnswers.{line_fault}
 use Rattle.goal_files.proofs.observations.read_all.Goals as goal
 

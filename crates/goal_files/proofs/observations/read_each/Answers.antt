@@ -1,7 +1,7 @@
 use Rattle.std.proofs.Common.{arith}
 use Rattle.std.proofs.lemmas.Result.{err_from_is_err_and}
 use Rattle.goal_files.specs.Observations.{SpellsAction}
-use Rattle.goal_files.proofs.TypedLines.{spell_more, spell_before}
+use Rattle.goal_files.proofs.LineLaws.{spell_more, spell_before}
 use Rattle.goal_files.proofs.observations.read_each.Goals as goal
 
 pub loop-line-preserved : goal.loop-line-preserved

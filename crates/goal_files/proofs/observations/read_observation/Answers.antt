@@ -1,6 +1,6 @@
 use Rattle.std.proofs.Common.{ap, subst}
 use Rattle.goal_files.specs.Observations.{HasNoList, HasUnknownAction}
-use Rattle.goal_files.specs.TypedReading.{PlainLine}
+use Rattle.goal_files.specs.LineReading.{PlainLine}
 use Rattle.goal_files.proofs.LineFaults.{unknown_action}
 use Rattle.goal_files.proofs.observations.read_observation.Goals as goal
 

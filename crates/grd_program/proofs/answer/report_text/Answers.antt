@@ -1,13 +1,14 @@
-use Rattle.std.proofs.Common.{sym, subst, string_bytes}
+use Rattle.std.proofs.Common.{subst}
 use Rattle.grd_program.specs.Reports.{IsReportOn}
 use Rattle.grd_program.specs.Runs.{IsReportText}
-use Rattle.grd_program.proofs.FileLemmas.{report_text_is}
+use Rattle.grd_program.proofs.FileLemmas.{ok_more, report_text_is}
 use Rattle.grd_program.proofs.answer.report_text.Goals as goal
 
 pub returns-clause-text : goal.returns-clause-text
 returns-clause-text g c =
-    let inputs = c.in_ok-inputs.inputs in
-    subst (λ bytes. IsReportText c.args.question (g.F.Shelf.told c.args.shelf.now) c.args.job.now bytes.items) (sym c.into_bytes.ensures.value)
-    (report_text_is c.args.question (g.F.Shelf.told c.args.shelf.now) c.args.job.now inputs.domain inputs.problem inputs.goals.items (string_bytes c.in_ok-report.report)
-    c.in_ok-inputs.ensures.taken
-    (subst (λ goals. IsReportOn c.args.question inputs.domain inputs.problem goals (string_bytes c.in_ok-report.report)) c.deref.ensures.value c.in_ok-report.ensures.report))
+    let told = g.F.Shelf.told c.args.shelf.now in
+    let question = c.args.question in
+    let typed = c.in_ok-inputs.inputs.typed in
+    ok_more (λ text. IsReportOn question typed c.deref.result.now text.items) (λ text. IsReportText question told c.args.job.now text.items) c.report_on.result
+    (λ text report. report_text_is question told c.args.job.now typed c.in_ok-inputs.inputs.goals.items text.items c.in_ok-inputs.ensures.taken
+    (subst (λ goals. IsReportOn question typed goals text.items) c.deref.ensures.value report)) c.report_on.ensures.report

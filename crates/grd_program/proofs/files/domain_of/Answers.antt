@@ -1,4 +1,4 @@
-use Rattle.std.proofs.Common.{subst}
+use Rattle.std.proofs.Common.{◌^◌, ◌≤◌, length, sym, subst}
 use Rattle.grd_base.specs.declared.roles.FileRole.TheVariants.{Domain}
 use Rattle.pddl_reader.specs.Spelling.{IsDomainText}
 use Rattle.pddl_reader.specs.Faults.{IsDomainFault}
@@ -15,6 +15,13 @@ returns-in-Ok-clause-spelled g c =
 
 pub returns-in-Ok-clause-is_spelled : goal.returns-in-Ok-clause-is_spelled
 returns-in-Ok-clause-is_spelled g c = record { text = c.deref.result.now; spells = c.in-Ok.ensures.spelled }
+
+pub returns-in-Ok-clause-short : goal.returns-in-Ok-clause-short
+returns-in-Ok-clause-short g c = record {
+  text = c.deref.result.now;
+  short = subst (λ bytes. length bytes ≤ 2 ^ 20) (sym c.deref.ensures.value) c.in_ok-text.ensures.short;
+  spells = c.in-Ok.ensures.spelled;
+}
 
 pub returns-clause-cause : goal.returns-clause-cause
 returns-clause-cause g c =

@@ -1,11 +1,12 @@
 use Rattle.std.proofs.Common.{◌++◌, length, codes, arith}
 use Rattle.std.specs.Option.{option_map}
 use Rattle.std.specs.Fmt.{decimal}
-use Rattle.grd_program.proofs.ReportLemmas.{names, cost_report_more}
+use Rattle.grd_program.specs.Reports.{action_names}
+use Rattle.grd_program.proofs.ReportLemmas.{cost_report_more}
 use Rattle.grd_program.proofs.report.cost_report.Goals as goal
 
 pub loop-i-preserved : goal.loop-i-preserved
 loop-i-preserved c =
-    cost_report_more (names c.args.actions.now) (option_map (λ plan. plan.items)) c.args.answers.now c.loop-i.i c.index-answers-i.result
+    cost_report_more (action_names c.args.world.now.typed) (option_map (λ plan. plan.items)) c.args.answers.now c.loop-i.i c.index-answers-i.result
     (codes "goals " ++ decimal (length c.args.answers.now) ++ codes "\n") _ _
     (omega arith) c.index-answers-i.is c.loop-i.invariant c.in_ok-push_line.ensures

@@ -1,6 +1,6 @@
 use Rattle.std.proofs.Common.{refl, ◌∙◌}
 use mathlib.Core.Path.{ap₂}
-use Rattle.goal_files.specs.TypedReading.{key_atom, with_atom}
+use Rattle.goal_files.specs.LineReading.{key_atom, with_atom}
 use Rattle.goal_files.proofs.AtomSets.{atom_added}
 use Rattle.goal_files.proofs.atom_set.AtomSet.add.Goals as goal
 

@@ -1,5 +1,5 @@
 use Rattle.std.proofs.Common.{◌≡◌, ◌++◌, map}
-use Rattle.goal_files.specs.TypedReading.{key_atom}
+use Rattle.goal_files.specs.LineReading.{key_atom}
 use Rattle.goal_files.proofs.atom_set.AtomSet.into_goal.Given as goal
 
 abbrev pub invariant-loop-predicate : goal.invariant-loop-predicate

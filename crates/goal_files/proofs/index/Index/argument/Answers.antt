@@ -1,6 +1,6 @@
 use Rattle.std.proofs.Common.{Contains, subst, sym, ◌∙◌}
 use Rattle.std.proofs.lemmas.Bool.{false≢true}
-use Rattle.goal_files.specs.TypedReading.{IsIndexed}
+use Rattle.goal_files.specs.LineReading.{IsIndexed}
 use Rattle.goal_files.proofs.GroundLaws.{few_objects, object_named, not_named, only_named}
 use Rattle.goal_files.proofs.index.Index.argument.Goals as goal
 

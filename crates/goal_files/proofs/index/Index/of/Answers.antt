@@ -1,7 +1,7 @@
 use Rattle.std.proofs.Common.{◌≡◌, List, map, sym, subst, rules}
 use Rattle.type_check.specs.Values.{PlainTypedPredicate, PlainTypedSchema, PlainTypedObject}
-use Rattle.goal_files.specs.TypedReading.{AreNumbered}
-use Rattle.goal_files.proofs.TypedTasks.{predicates_numbered, schemas_numbered, objects_numbered}
+use Rattle.type_check.specs.Numbered.{AreNumbered}
+use Rattle.type_check.proofs.TypedTasks.{predicates_numbered, schemas_numbered, objects_numbered}
 use Rattle.goal_files.proofs.index.Index.of.Goals as goal
 
 pub predicate_names-requires : goal.predicate_names-requires

@@ -1,6 +1,6 @@
 use Rattle.std.proofs.Common.{ap, ◌∙◌, subst}
 use Rattle.type_check.specs.Values.{PlainTyped}
-use Rattle.goal_files.specs.TypedReading.{IsIndexed}
+use Rattle.goal_files.specs.LineReading.{IsIndexed}
 use Rattle.goal_files.proofs.GroundLaws.{few_predicates, only_predicate}
 use Rattle.goal_files.proofs.index.Index.predicate.Goals as goal
 

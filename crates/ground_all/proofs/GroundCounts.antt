@@ -1,0 +1,13 @@
+-- The counts that are made are those of the fluent atoms and of the typed instances.
+use Rattle.std.proofs.Common.{◌≡◌, ℕ, List, map, length, ap, sym, ◌∙◌}
+use Rattle.std.specs.List.{sum}
+use Rattle.type_check.specs.Values.{PlainTyped}
+use Rattle.ground_all.specs.Grounding.{fluent_atoms, instances}
+use Rattle.ground_all.specs.Found.{atom_blocks, name_blocks}
+use Rattle.ground_all.proofs.BlockLaws.{atoms_sum, instances_sum}
+
+pub atoms_counted : (t : PlainTyped) (total : ℕ) (counts items : List ℕ) → total ≡ sum counts → counts ≡ items → items ≡ map length (atom_blocks t) → total ≡ length (fluent_atoms t)
+atoms_counted t total counts items is same made = is ∙ ap sum (same ∙ made) ∙ sym (atoms_sum t)
+
+pub actions_counted : (t : PlainTyped) (total : ℕ) (counts items : List ℕ) → total ≡ sum counts → counts ≡ items → items ≡ map length (name_blocks t) → total ≡ length (instances t)
+actions_counted t total counts items is same made = is ∙ ap sum (same ∙ made) ∙ sym (instances_sum t)

@@ -1,0 +1,5 @@
+use Rattle.ground_all.proofs.TextLaws.{front, IsWritten}
+use Rattle.ground_all.proofs.names.write_bracketed.Given as goal
+
+abbrev pub invariant-loop-object : goal.invariant-loop-object
+invariant-loop-object l = IsWritten (front l.typed l.name l.objects l.object-index) l.fn.into l.into l.at

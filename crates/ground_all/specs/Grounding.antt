@@ -1,0 +1,82 @@
+-- The world of a typed domain and problem: its fluent atoms, all typed instances of the actions, its
+-- start and its goals.
+use Rattle.std.specs.Prelude.{◌≡◌, ℕ, Bool, not, ◌==◌, List, [], map, filter, Some, slice_get, slice_index, if◌then◌else◌}
+use Rattle.std.specs.List.{flat_map, list_any}
+use Rattle.strips_model.specs.Values.{PlainTask}
+use Rattle.strips_model.specs.Worlds.{Instance, World, task_of}
+use Rattle.type_check.specs.declared.typed.TypedTerm.{TypedTerm}
+use Rattle.type_check.specs.declared.typed.TypedTerm.TheVariants.{Parameter, Object}
+use Rattle.type_check.specs.Values.{PlainTyped, PlainTypedPredicate, PlainTypedSchema, PlainTypedLiteral, PlainGroundAtom, PlainGroundName, is_same_atom}
+use Rattle.ground_all.specs.Tuples.{tuples, numbered, FitPlaces}
+
+-- whether the predicate with this number occurs in an effect
+abbrev pub is_fluent : PlainTyped → ℕ → Bool
+is_fluent t q = list_any (λ s. list_any (λ l. l.predicate == q) s.effect) t.schemas
+
+abbrev pub atoms_of : ℕ → PlainTypedPredicate → List PlainGroundAtom
+atoms_of q p = map (λ objects. record { predicate = q; objects = objects }) (tuples p.places)
+
+-- the atoms of the fluent predicates, in the order of their declaration
+unfoldable pub fluent_atoms : PlainTyped → List PlainGroundAtom
+fluent_atoms t = flat_map (λ x. if is_fluent t x.0 then atoms_of x.0 x.1 else []) (numbered 0 t.predicates)
+
+abbrev pub names_of_schema : ℕ → PlainTypedSchema → List PlainGroundName
+names_of_schema n s = map (λ objects. record { schema = n; objects = objects }) (tuples s.places)
+
+-- all typed instances of the actions, in text order
+unfoldable pub instances : PlainTyped → List PlainGroundName
+instances t = flat_map (λ x. names_of_schema x.0 x.1) (numbered 0 t.schemas)
+
+-- the object of a term, where the parameters have these
+abbrev pub object_of : List ℕ → TypedTerm → ℕ
+object_of objects (Parameter n) = slice_index objects n
+object_of objects (Object k) = k
+
+abbrev pub ground_literal : List ℕ → PlainTypedLiteral → PlainGroundAtom
+ground_literal objects l = record { predicate = l.predicate; objects = map (object_of objects) l.terms }
+
+-- the atoms of the positive literals, and of the negative ones
+abbrev pub positives : List ℕ → List PlainTypedLiteral → List PlainGroundAtom
+positives objects ls = map (ground_literal objects) (filter (λ l. l.positive) ls)
+
+abbrev pub negatives : List ℕ → List PlainTypedLiteral → List PlainGroundAtom
+negatives objects ls = map (ground_literal objects) (filter (λ l. not l.positive) ls)
+
+abbrev pub instance_of : PlainTypedSchema → List ℕ → Instance PlainGroundAtom
+instance_of s objects = record {
+  pre = positives objects s.pre;
+  add = positives objects s.effect;
+  del = negatives objects s.effect;
+}
+
+-- the instances by their atoms, in the same order
+abbrev pub actions_of : PlainTyped → List (Instance PlainGroundAtom)
+actions_of t = flat_map (λ s. map (instance_of s) (tuples s.places)) t.schemas
+
+abbrev pub world_of : PlainTyped → List (List PlainGroundAtom) → World PlainGroundAtom
+world_of t goals = record {
+  fluents = fluent_atoms t;
+  init = t.init;
+  actions = actions_of t;
+  goals = goals;
+}
+
+unfoldable pub ground_task : PlainTyped → List (List PlainGroundAtom) → PlainTask
+ground_task t goals = task_of is_same_atom (world_of t goals)
+
+-- the atom is one of a predicate's, with an object that fits for each of its places
+pub record IsTypedAtom (t : PlainTyped) (a : PlainGroundAtom) : Type 0 where
+  pub predicate : PlainTypedPredicate
+  pub there : slice_get t.predicates a.predicate ≡ Some predicate
+  pub fit : FitPlaces predicate.places a.objects
+
+-- the name is one of an action of the domain, with an object that fits for each of its parameters
+pub record IsTypedName (t : PlainTyped) (n : PlainGroundName) : Type 0 where
+  pub schema : PlainTypedSchema
+  pub there : slice_get t.schemas n.schema ≡ Some schema
+  pub fit : FitPlaces schema.places n.objects
+
+-- what is grounded: a typed domain and problem, and goals
+pub record PlainGrounded : Type 0 where
+  pub typed : PlainTyped
+  pub goals : List (List PlainGroundAtom)

@@ -1,0 +1,5 @@
+pub mod Tuples
+pub mod Grounding
+pub mod Names
+pub mod Sound
+pub mod Found

@@ -1,0 +1,80 @@
+ghost use Rattle.std.specs.Prelude.{◌≡◌, ◌<◌, ◌^◌, ◌==◌, ◌||◌, false, length, map, sum, EachIndex, IfOk, if◌then◌else◌};
+ghost use Rattle.std.specs.List.{list_any, slice_index_or};
+ghost use Rattle.ground_all.specs.Tuples.{tuples};
+ghost use Rattle.ground_all.specs.Sound.{ArePlaces, IsSound};
+ghost use Rattle.ground_all.specs.Found.{fluent_marks, atom_blocks, name_blocks};
+
+use crate::tuples::count;
+use grd_base::OutOfMemory;
+use std::alloc::Global;
+use type_check::{Typed, TypedLiteral, TypedPredicate};
+
+/// Which predicates occur in an effect.
+pub(crate) fn fluent_predicates(alloc: Global, typed: &Typed) -> Result<Vec<bool>, OutOfMemory>
+    requires { IsSound typed.now }
+    ensures { IfOk result (λ marks. marks.items ≡ fluent_marks typed.now) }
+{
+    let mut marks = vec![in alloc; false; typed.predicates.len()]?;
+    for schema in &typed.schemas {
+        mark(&mut marks, &schema.effect);
+    }
+    Ok(marks)
+}
+
+/// Marks the predicates of an effect's literals.
+fn mark(marks: &mut [bool], effect: &[TypedLiteral])
+    ensures { EachIndex marks.old (λ q. slice_index_or marks.new q false
+        ≡ (slice_index_or marks.old q false || list_any (λ l. l.predicate == q) effect.now)) }
+{
+    for literal in effect {
+        let predicate = literal.predicate as usize;
+        if predicate < marks.len() {
+            marks[predicate] = true;
+        }
+    }
+}
+
+/// How many fluent atoms each predicate has: none, where it is static.
+pub(crate) fn atom_counts(
+    alloc: Global,
+    typed: &Typed,
+    fluent: &[bool],
+) -> Result<Vec<u128>, OutOfMemory>
+    requires sound { IsSound typed.now }
+    requires fluent { fluent.now ≡ fluent_marks typed.now }
+    ensures { IfOk result (λ counts. counts.items ≡ map length (atom_blocks typed.now)) }
+{
+    let mut counts = Vec::with_capacity(alloc, typed.predicates.len())?;
+    for (predicate, fluent) in typed.predicates.iter().zip(fluent) {
+        counts.push(atom_count(predicate, *fluent))?;
+    }
+    Ok(counts)
+}
+
+/// How many fluent atoms a predicate has.
+fn atom_count(predicate: &TypedPredicate, fluent: bool) -> u128
+    requires { ArePlaces predicate.now.places }
+    ensures { result ≡ (if fluent then length (tuples predicate.now.places) else 0) }
+{
+    if fluent { count(&predicate.places) } else { 0 }
+}
+
+/// How many typed instances each action has.
+pub(crate) fn action_counts(alloc: Global, typed: &Typed) -> Result<Vec<u128>, OutOfMemory>
+    requires { IsSound typed.now }
+    ensures { IfOk result (λ counts. counts.items ≡ map length (name_blocks typed.now)) }
+{
+    let mut counts = Vec::with_capacity(alloc, typed.schemas.len())?;
+    for schema in &typed.schemas {
+        counts.push(count(&schema.places))?;
+    }
+    Ok(counts)
+}
+
+/// The sum of counts.
+pub(crate) fn total(counts: &[u128]) -> u128
+    requires { sum counts.now < 2 ^ 128 }
+    ensures { result ≡ sum counts.now }
+{
+    counts.iter().sum()
+}

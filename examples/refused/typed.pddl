@@ -1,1 +1,0 @@
-(define (domain fork) (:types place) (:predicates (at ?p - place)))

@@ -1,0 +1,1 @@
+(define (domain fork) (:types place) (:predicates (at ?p - town)))
