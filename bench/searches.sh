@@ -4,7 +4,7 @@
 # `cost` is asked for a goal that no plan reaches, so that it visits every state once. `wcd` is asked
 # for two goals, one of them as far away as any state is.
 # Each line: the task, its states and actions, then for each command the seconds, and the
-# microseconds for each state.
+# microseconds for each state, and for `cost` the most memory that it had, in MiB.
 set -eu
 top=$(cd "$(dirname "$0")/.." && pwd)
 cd "$top/crates/grd_program"
@@ -13,7 +13,7 @@ program=$PWD/out/grd_program
 work=$(mktemp -d)
 trap 'rm -rf "$work"' EXIT
 python3 - "$program" "$work" <<'END'
-import subprocess, sys, time
+import os, subprocess, sys, time
 
 program, work = sys.argv[1:]
 
@@ -65,25 +65,31 @@ def write(name, text):
         file.write(text)
 
 
-def seconds(command, goals, want):
+def measured(command, goals, want):
+    """The seconds of a run, and its most memory in MiB."""
     write("goals", "".join(atoms(goal) + "\n" for goal in goals))
     words = [f"--{role}={work}/{role}" for role in ("domain", "problem", "goals")]
-    start = time.time()
-    done = subprocess.run([program, command, *words, "--max-states=200000"], capture_output=True, text=True)
-    taken = time.time() - start
-    if done.returncode != 0 or want not in done.stdout:
-        sys.exit(f"{command}: status {done.returncode}: {done.stderr}{done.stdout[:200]}")
-    return taken
+    with open(f"{work}/printed", "w+") as printed:
+        start = time.time()
+        run = subprocess.Popen([program, command, *words, "--max-states=200000"], stdout=printed, stderr=printed)
+        _, status, usage = os.wait4(run.pid, 0)
+        taken = time.time() - start
+        run.returncode = os.waitstatus_to_exitcode(status)
+        printed.seek(0)
+        text = printed.read()
+    if run.returncode != 0 or want not in text:
+        sys.exit(f"{command}: status {run.returncode}: {text[:200]}")
+    return taken, usage.ru_maxrss / 1024
 
 
-print("task          states  actions   cost s  µs/state    wcd s  µs/state")
+print("task          states  actions   cost s  µs/state  cost MiB    wcd s  µs/state")
 for make, sizes in ((chain, (100, 300, 1000, 3000)), (switches, (8, 11, 14, 17)), (grid, (10, 20, 30, 45))):
     for size in sizes:
         states, names, actions, start, goals = make(size)
         write("domain", f"(define (domain made) (:predicates (never) {atoms(names)})\n" + "\n".join(actions) + ")\n")
         write("problem", f"(define (problem made) (:domain made) (:init {atoms(start)}) (:goal (and <hypothesis>)))\n")
-        cost = seconds("cost", [["never"]], "goal 1 cost none\n")
-        wcd = seconds("wcd", goals, "\nprefix")
+        cost, memory = measured("cost", [["never"]], "goal 1 cost none\n")
+        wcd, _ = measured("wcd", goals, "\nprefix")
         line = f"{make.__name__ + ' ' + str(size):12}  {states:6}  {len(actions):7}"
-        print(f"{line}  {cost:7.3f}  {cost / states * 1e6:8.1f}  {wcd:7.3f}  {wcd / states * 1e6:8.1f}", flush=True)
+        print(f"{line}  {cost:7.3f}  {cost / states * 1e6:8.1f}  {memory:8.1f}  {wcd:7.3f}  {wcd / states * 1e6:8.1f}", flush=True)
 END

@@ -1,5 +1,5 @@
 -- A bit set as a set of numbers.
-use Rattle.std.specs.Prelude.{◌≡◌, ℕ, ◌/◌, ◌%◌, ◌^◌, ◌<◌, ◌==◌, List, length, slice_index}
+use Rattle.std.specs.Prelude.{◌≡◌, ℕ, zero, suc, ◌+◌, ◌*◌, ◌/◌, ◌%◌, ◌^◌, ◌<◌, ◌==◌, List, [], ◌∷◌, length, slice_index, if◌then◌else◌}
 use Rattle.std.specs.Int.{bit_at}
 use Rattle.grd_base.specs.declared.bits.Bits.{Bits}
 use Rattle.grd_base.specs.Sets.{Set}
@@ -18,3 +18,18 @@ members b = has b.words
 pub record IsWhole {W : ℕ} (b : Bits W) : Type 0 where
   pub wide : length b.words ≡ W
   pub fits : (k : ℕ) → slice_index b.words k < 2 ^ 64
+
+-- the number whose n lowest bits tell which of the n numbers counted from `from` are in the set,
+-- and whose other bits are zero
+unfoldable pub word_of : Set → ℕ → ℕ → ℕ
+word_of s from zero = 0
+word_of s from (suc n) = (if s from then 1 else 0) + 2 * word_of s (suc from) n
+
+-- the words of a set, `count` of them, from the word at `place` on
+unfoldable pub words_of : Set → ℕ → ℕ → List ℕ
+words_of s place zero = []
+words_of s place (suc count) = word_of s (64 * place) 64 ∷ words_of s (suc place) count
+
+-- the bit set that has the members of the set which are below 64 * W
+unfoldable pub bits_of : {W : ℕ} → Set → Bits W
+bits_of {W} s = record { words = words_of s 0 W }

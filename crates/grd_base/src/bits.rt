@@ -1,6 +1,6 @@
 ghost use Rattle.std.specs.Prelude.{◌≡◌, ℕ, ◌*◌, ◌<◌, ◌↔◌, IsTrue, ◌^◌, slice_index, ◌≤◌, false};
-ghost use Rattle.grd_base.specs.Sets.{nothing, with_number, without_number, union, minus, IsSubset};
-ghost use Rattle.grd_base.specs.Bits.{members, IsWhole};
+ghost use Rattle.grd_base.specs.Sets.{Set, nothing, with_number, without_number, union, minus, IsSubset};
+ghost use Rattle.grd_base.specs.Bits.{members, bits_of, IsWhole};
 ghost use Rattle.grd_base.specs.declared.bits.Bits.{Bits};
 
 use std::cmp::Ordering;
@@ -119,6 +119,14 @@ pub fn whole<const W: usize>(s: &Bits<W>)
 /// Whole values with the same members are the same value.
 pub fn same_whole<const W: usize>()
     ensures { (x y : Bits W) → IsWhole x → IsWhole y → members x ≡ members y → x ≡ y }
+{}
+
+/// The value that is made of a set is whole and has the set's members, where these are below `64 * W`;
+/// made of the members of a whole value it is that value.
+pub fn packed<const W: usize>()
+    ensures whole { (s : Set) → IsWhole (bits_of {W = W} s) }
+    ensures members { (s : Set) → ((n : ℕ) → 64 * W ≤ n → s n ≡ false) → members (bits_of {W = W} s) ≡ s }
+    ensures again { (x : Bits W) → IsWhole x → bits_of (members x) ≡ x }
 {}
 
 /// No number from `64 * W` on is a member.

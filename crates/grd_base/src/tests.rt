@@ -39,6 +39,7 @@ fn bits_are_a_set_of_numbers(rt: HostRuntime) {
     same_order::<2>();
     whole(&low);
     same_whole::<2>();
+    packed::<2>();
 }
 
 #[test]
@@ -71,4 +72,41 @@ fn want_of_memory_has_a_text(rt: HostRuntime) -> Result<(), Fail> {
     let text = format!(in rt.alloc(); "{OutOfMemory}")?;
     assert_eq!(rt; text.as_str(), "out of memory");
     Ok(())
+}
+
+// The width with which it is called.
+fn width<const W: usize>() -> usize {
+    W
+}
+
+fn width_behind<T: Copy, const W: usize>(_item: T) -> usize {
+    W
+}
+
+#[test]
+fn width_is_the_least_that_holds_the_atoms(rt: HostRuntime) {
+    let widths = [
+        (0, 1),
+        (64, 1),
+        (65, 2),
+        (128, 2),
+        (129, 4),
+        (256, 4),
+        (257, 8),
+        (512, 8),
+        (513, 16),
+        (1024, 16),
+        (1025, 32),
+        (2048, 32),
+        (2049, 64),
+        (4096, 64),
+    ];
+    for (atoms, least) in widths {
+        assert_eq!(rt; by_width!(atoms, width()), least, "{atoms}");
+        assert_eq!(rt;
+            by_width!(atoms, width_behind::<_>(atoms)),
+            least,
+            "{atoms}"
+        );
+    }
 }

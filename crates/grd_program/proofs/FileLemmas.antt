@@ -120,6 +120,19 @@ some_states words job reads = at_least job.limits.states reads.states
             omega (arith, number.least)
     at_least n (inr (none, is)) = omega arith
 
+-- and at most a million
+pub few_states : (words : List (List ℕ)) (job : PlainJob) → Reads words job → job.limits.states ≤ 1000000
+few_states words job reads = at_most job.limits.states reads.states
+  where
+    at_most : (n : ℕ) → GivesNumber reads.items MaxStates 100000 n → n ≤ 1000000
+    at_most n (inl (value, range, given, is, number)) = few n range value is number
+      where
+        few : (n : ℕ) (range : ℕ × ℕ) (value : List ℕ) → Some (1, 200000) ≡ Some range → IsNumber range value n → n ≤ 1000000
+        few n range value is number =
+            let greatest : range.1 ≡ 200000 = ap (λ o. (option_map_or (λ (r : ℕ × ℕ). r.1) o 200000)) (sym is) in
+            omega (arith, number.greatest)
+    at_most n (inr (none, is)) = omega arith
+
 -- the report of 'wcd' answers its question
 pub wcd_report_on : (question : Question) (typed : PlainTyped) (goals : List (List PlainGroundAtom)) (found : List (Option (List ActionId))) (text : List ℕ)
     → question ≡ Wcd → AreRight (ground_task typed goals) [] found → IsWcdReport (ground_task typed goals) (action_names typed) found text

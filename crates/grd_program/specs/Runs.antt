@@ -5,7 +5,8 @@ use Rattle.grd_base.specs.declared.roles.FileRole.TheVariants.{Domain, Problem, 
 use Rattle.grd_io.specs.Bytes.{Told, extended, IsLongerFile}
 use Rattle.grd_io.specs.Causes.{Rose}
 use Rattle.strips_model.specs.Values.{PlainTask}
-use Rattle.strips_model.specs.Reached.{MoreThan, IsReachedFor}
+use Rattle.grd_base.specs.Counts.{MoreThan}
+use Rattle.strips_model.specs.Reached.{IsReachedFor}
 use Rattle.pddl_reader.specs.Values.{PlainDomain, PlainProblem}
 use Rattle.pddl_reader.specs.Spelling.{IsDomainText, IsProblemText}
 use Rattle.type_check.specs.Values.{PlainTyped, PlainGroundAtom}

@@ -15,10 +15,11 @@ use crate::show::show_text;
 use crate::status::{LimitFault, Refusal, Status};
 use crate::typed::read_typed;
 use crate::words::{WordsFault, read_words};
-use grd_base::{ActionId, GoalId};
+use grd_base::{ActionId, GoalId, Limits};
 use grd_io::Shelf;
 use ground_all::{GroundFault, Grounded, ground};
-use plain_search::{GoalSearchFault, costs, wcd};
+use optimal_search::{GoalSearchFault, costs};
+use plain_search::{plans_of, wcd};
 use std::alloc::Global;
 use type_check::{Goal, Typed};
 
@@ -118,14 +119,17 @@ fn report_of(
     states: u32,
     world: &Grounded<'_>,
 ) -> Result<Vec<u8>, Status>
-    requires { 1 ≤ states }
+    requires some_states { 1 ≤ states }
+    requires few_states { states ≤ 1000000 }
     ensures report { IfOk result
         (λ text. IsReportOn question world.now.typed world.now.goals text.items) }
     ensures cause { IfErr result
         (HasSearchCause states (ground_task world.now.typed world.now.goals)) }
 {
-    let found = match costs(alloc, world.task(), states) {
-        Ok(found) => found,
+    let task = world.task();
+    let limits = Limits { states, sets: 0 };
+    let found = match costs(alloc, task, limits) {
+        Ok(found) => plans_of(alloc, task, states, found)?,
         Err(fault) => return Err(search_status(fault, states)),
     };
     match question {
@@ -142,7 +146,8 @@ fn report_on(
     typed: &Typed,
     goals: &[Goal],
 ) -> Result<Vec<u8>, Status>
-    requires states { 1 ≤ states }
+    requires some_states { 1 ≤ states }
+    requires few_states { states ≤ 1000000 }
     requires task { IsTypedTask typed.now }
     requires few_goals { length goals.now ≤ 32 }
     ensures report { IfOk result (λ text. IsReportOn question typed.now goals.now text.items) }
@@ -160,7 +165,8 @@ fn report_text<F: Shelf>(
     question: Question,
     job: &Job,
 ) -> Result<Vec<u8>, Status>
-    requires { 1 ≤ job.now.limits.states }
+    requires some_states { 1 ≤ job.now.limits.states }
+    requires few_states { job.now.limits.states ≤ 1000000 }
     ensures text { IfOk result
         (λ text. IsReportText question (F.told shelf.old) job.now text.items) }
     ensures taken { OnOk result (HasTakenFiles (F.told shelf.old) job.now) }
@@ -177,7 +183,8 @@ fn report_text<F: Shelf>(
 
 /// What the command of a job prints.
 fn text_of_job<F: Shelf>(alloc: Global, shelf: &mut F, job: &Job) -> Result<Vec<u8>, Status>
-    requires { 1 ≤ job.now.limits.states }
+    requires some_states { 1 ≤ job.now.limits.states }
+    requires few_states { job.now.limits.states ≤ 1000000 }
     ensures text { IfOk result
         (λ text. IsTextOf job.now.command (F.told shelf.old) job.now text.items) }
     ensures taken { OnOk result (HasTaken job.now.command (F.told shelf.old) job.now) }

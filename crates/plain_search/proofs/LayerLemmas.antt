@@ -1,26 +1,22 @@
--- A walk to no goal, in layers, and how deep its visits are.
-use Rattle.std.proofs.Common.{◌≡◌, ℕ, zero, suc, ◌+◌, ◌-◌, ◌<◌, ◌≤◌, ◌⊎◌, false, get_or, List, [], ◌∷◌, ◌++◌, length, take, replicate, refl, sym, ◌∙◌, ap, inl, inr, arith, Some}
+-- A walk in layers, and how deep its visits are.
+use Rattle.std.proofs.Common.{◌≡◌, ℕ, zero, suc, ◌+◌, ◌-◌, ◌<◌, ◌≤◌, ◌⊎◌, get_or, List, [], ◌∷◌, ◌++◌, length, take, replicate, refl, sym, ◌∙◌, ap, inl, inr, arith, Some}
 use Rattle.std.specs.Prelude.{slice_get}
-use Rattle.std.specs.Option.{option_map_or}
 use Rattle.std.proofs.lemmas.List.{length_push}
 use Rattle.std.proofs.lemmas.Grind.{common_steps}
 use Rattle.std.proofs.lemmas.Bool.{cases_lt}
-use Rattle.std.proofs.lemmas.Option.{slice_get_past, slice_get_within, slice_get_read}
+use Rattle.std.proofs.lemmas.Option.{slice_get_within, slice_get_read}
 use mathlib.Core.Path.{subst}
 use Rattle.grd_base.specs.declared.ids.ActionId.{ActionId}
 use Rattle.strips_model.specs.Values.{PlainTask}
-use Rattle.strips_model.specs.Plans.{State, step, start_of, goal_holds, satisfies}
-use Rattle.strips_model.specs.Reached.{MoreThan}
+use Rattle.strips_model.specs.Plans.{State, step}
+use Rattle.grd_base.specs.Counts.{MoreThan}
 use Rattle.plain_search.specs.Walks.{Visit, HasState, IsNoted, AreWays, IsWalk}
 use Rattle.plain_search.specs.Layers.{IsWithin, IsLayered}
-use Rattle.plain_search.specs.Depths.{IsBegun, no_goal, AreDepths, IsDeepened, Deepens}
+use Rattle.plain_search.specs.Depths.{IsBegun, AreDepths, IsDeepened, Deepens}
 use Rattle.plain_search.proofs.MoveLemmas.{IsGap}
 use Rattle.plain_search.proofs.WalkPlaceLemmas.{pushed_cases, pushed_old, pushed_new, old_at, there}
 use Rattle.plain_search.proofs.WalkPlanLemmas.{some_same}
 use Rattle.plain_search.proofs.WalkLemmas.{pushed, follow_noted, expands_on, head_done, many_visits, begins}
-
-never_holds : (t : PlainTask) (s : State) → goal_holds t (no_goal t) s ≡ false
-never_holds t s = ap (λ o. option_map_or (λ goal. satisfies goal s) o false) (slice_get_past t.goals (length t.goals) (omega arith))
 
 -- the depth of a visit is the length of the path to it
 module _ (path : ℕ → List ActionId) (vs : List Visit) (ds : List ℕ) (ways : AreWays path vs) (are : AreDepths vs ds) where
@@ -75,7 +71,7 @@ resized_more : (ds : List ℕ) (n deeper : ℕ) → n ≡ length ds + 1 → take
 resized_more ds n deeper e = grind (arith, common_steps)
 
 -- no visit is deeper than the successors of the state at the head
-near_head : (t : PlainTask) (head part depth k : ℕ) (vs : List Visit) (ds : List ℕ) (walk : IsWalk t (no_goal t) head part vs) → AreDepths vs ds → slice_get ds head ≡ Some depth → k < length vs
+near_head : (t : PlainTask) (head part depth k : ℕ) (vs : List Visit) (ds : List ℕ) (walk : IsWalk t head part vs) → AreDepths vs ds → slice_get ds head ≡ Some depth → k < length vs
     → length (walk.path k) ≤ depth + 1
 near_head t head part depth k vs ds walk are here within =
     let at_head : head < length ds = slice_get_within ds head depth here in
@@ -92,7 +88,7 @@ module _ (t : PlainTask) (limit head : ℕ) (from : State) (a : ActionId) (deepe
     pub deepen_noted : (ws : List Visit) (es : List ℕ) → IsNoted vs ws (record { state = x; parent = head; action = a }) → length ws ≤ limit
         → es ≡ take (length ws) ds ++ replicate (length ws - length ds) deeper → Deepens t limit head (a.0 + 1) from deeper ws es
     deepen_noted ws es noted few resized =
-        let walk = follow_noted t (no_goal t) limit head from a vs is.walk x to_x (never_holds t x) ws noted few in
+        let walk = follow_noted t limit head from a vs is.walk x to_x ws noted few in
         elim noted [
           | inl known ↦
               let same : es ≡ ds = resized ∙ resized_same ds (length ws) deeper (ap length known.1 ∙ sym is.depths.same_length) in
@@ -119,8 +115,8 @@ module _ (t : PlainTask) (limit head : ℕ) (from : State) (a : ActionId) (deepe
     deepen_many full fresh =
         let new : Visit = record { state = x; parent = head; action = a } in
         let ws : List Visit = vs ++ new ∷ [] in
-        let walk : IsWalk t (no_goal t) head (a.0 + 1) ws = pushed t (no_goal t) limit head from a vs is.walk x to_x (never_holds t x) fresh in
-        many_visits t (no_goal t) head (a.0 + 1) ws walk (IsWithin t deeper)
+        let walk : IsWalk t head (a.0 + 1) ws = pushed t limit head from a vs is.walk x to_x fresh in
+        many_visits t head (a.0 + 1) ws walk (IsWithin t deeper)
         (λ k v at. (
           walk.path k,
           walk.leads k v at,
@@ -130,7 +126,7 @@ module _ (t : PlainTask) (limit head : ℕ) (from : State) (a : ActionId) (deepe
 
 pub more_steps : (t : PlainTask) (limit fewer steps : ℕ) → fewer ≤ steps → MoreThan limit (IsWithin t fewer) → MoreThan limit (IsWithin t steps)
 more_steps t limit fewer steps le more = record {
-  states = more.states;
+  items = more.items;
   many = more.many;
   differ = more.differ;
   have = λ k d within. let is = more.have k d within in (is.0, is.1, omega (arith, is.2));
@@ -139,15 +135,15 @@ more_steps t limit fewer steps le more = record {
 -- the actions that are passed over lead nowhere
 pub deepens_on : (t : PlainTask) (limit head part more : ℕ) (from : State) (deeper : ℕ) (vs : List Visit) (ds : List ℕ) → IsGap t part more → Deepens t limit head part from deeper vs ds → Deepens t limit head more from deeper vs ds
 deepens_on t limit head part more from deeper vs ds gap is =
-    record { walk = expands_on t (no_goal t) limit head part more from vs gap is.walk; depths = is.depths; depth = is.depth; here = is.here; next = is.next }
+    record { walk = expands_on t limit head part more from vs gap is.walk; depths = is.depths; depth = is.depth; here = is.here; next = is.next }
 
 -- all actions of the state at the head are followed
 pub deepened : (t : PlainTask) (limit head part : ℕ) (from : State) (deeper : ℕ) (vs : List Visit) (ds : List ℕ) → length t.actions ≤ part → Deepens t limit head part from deeper vs ds
     → IsDeepened t limit deeper (head + 1) vs ds
 deepened t limit head part from deeper vs ds all is =
-    let walk : IsWalk t (no_goal t) head part vs = is.walk.walk in
+    let walk : IsWalk t head part vs = is.walk.walk in
     record {
-      walk = head_done t (no_goal t) limit head part from vs all is.walk;
+      walk = head_done t limit head part from vs all is.walk;
       depths = is.depths;
       within = λ k n at.
           let within_k : k < length ds = slice_get_within ds k n at in
@@ -159,7 +155,7 @@ pub deepens_begun : (t : PlainTask) (limit steps : ℕ) (vs : List Visit) → Is
 deepens_begun t limit steps vs is some =
     let one : length vs ≡ 1 = ap length is.only in
     record {
-      walk = begins t (no_goal t) limit vs is (never_holds t (start_of t)) some;
+      walk = begins t limit vs is some;
       depths = record {
         same_length = omega arith;
         first = refl;
@@ -176,7 +172,7 @@ deepens_begun t limit steps vs is some =
 pub layered : (t : PlainTask) (limit steps head : ℕ) (vs : List Visit) (ds : List ℕ) → IsDeepened t limit steps head vs ds
     → (length vs ≤ head) ⊎ ((n : ℕ) × (slice_get ds head ≡ Some n) × (steps ≤ n)) → IsLayered t steps vs ds
 layered t limit steps head vs ds is end =
-    let walk : IsWalk t (no_goal t) head 0 vs = is.walk.walk in
+    let walk : IsWalk t head 0 vs = is.walk.walk in
     record {
       path = walk.path;
       ways = walk.ways;

@@ -8,3 +8,4 @@ pub mod LiveLemmas
 pub mod CommonLemmas
 pub mod CompletionLemmas
 pub mod WitnessLemmas
+pub mod PlanLemmas

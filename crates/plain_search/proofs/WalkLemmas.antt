@@ -1,21 +1,20 @@
--- A walk in layers: what keeps it one, and what it tells of the goal.
-use Rattle.std.proofs.Common.{◌≡◌, ℕ, zero, suc, ◌+◌, ◌<◌, ◌≤◌, ◌⊎◌, false, cond, get_or, List, [], ◌∷◌, ◌++◌, length, map, refl, sym, ◌∙◌, ap, inl, inr, arith, Some, None}
-use Rattle.std.specs.Prelude.{slice_get, IsSomeAnd, IsTrue, nat_lt, if◌then◌else◌}
+-- A walk in layers: what keeps it one, and how many states it visits.
+use Rattle.std.proofs.Common.{◌≡◌, ℕ, zero, suc, ◌+◌, ◌<◌, ◌≤◌, cond, get_or, List, [], ◌∷◌, ◌++◌, length, map, refl, sym, ◌∙◌, ap, inl, inr, arith, Some, None}
+use Rattle.std.specs.Prelude.{slice_get, nat_lt, if◌then◌else◌}
 use Rattle.std.specs.Option.{option_and_then}
 use Rattle.std.proofs.lemmas.List.{length-map, length_push}
-use Rattle.std.proofs.lemmas.Bool.{cases_lt, cases_eq, false≢true, lt-ltb, le-ltb}
+use Rattle.std.proofs.lemmas.Bool.{cases_lt, cases_eq, lt-ltb, le-ltb}
 use Rattle.std.proofs.lemmas.Option.{slice_get_within, slice_get-get_or}
 use mathlib.Core.Path.{subst}
 use Rattle.grd_base.specs.declared.ids.ActionId.{ActionId}
-use Rattle.grd_base.specs.declared.ids.GoalId.{GoalId}
 use Rattle.strips_model.specs.Values.{PlainTask}
-use Rattle.strips_model.specs.Plans.{State, after, step, start_of, goal_holds, IsCost, IsOptimal, IsPlan}
-use Rattle.strips_model.specs.Reached.{IsReachedFor, MoreThan}
-use Rattle.plain_search.specs.Walks.{Visit, HasState, IsNoted, AreWays, HasVisit, IsWalk, Expands, IsExpanded, LeadsToGoal}
+use Rattle.strips_model.specs.Plans.{State, after, step, start_of}
+use Rattle.grd_base.specs.Counts.{MoreThan}
+use Rattle.plain_search.specs.Walks.{Visit, HasState, IsNoted, AreWays, HasVisit, IsWalk, Expands, IsExpanded}
 use Rattle.plain_search.specs.Depths.{IsBegun}
 use Rattle.plain_search.proofs.MoveLemmas.{IsGap}
 use Rattle.plain_search.proofs.WalkPlaceLemmas.{pushed_cases, pushed_old, pushed_new, old_at, same_at, at_from_Any, Any-from_at, at_of_map}
-use Rattle.plain_search.proofs.WalkPlanLemmas.{some_same, some_and, after_push, after_nothing, no_action, first_step}
+use Rattle.plain_search.proofs.WalkPlanLemmas.{some_same, after_push, after_nothing, no_action}
 
 -- the paths, with another one from the place n on
 pub grown : (ℕ → List ActionId) → ℕ → List ActionId → ℕ → List ActionId
@@ -61,9 +60,9 @@ module _ (path : ℕ → List ActionId) (vs : List Visit) where
         ];
       }
 
-module _ (t : PlainTask) (g : GoalId) (head part : ℕ) (vs : List Visit) (is : IsWalk t g head part vs) where
+module _ (t : PlainTask) (head part : ℕ) (vs : List Visit) (is : IsWalk t head part vs) where
   -- an action that leads to a visited state
-  pub pass_known : (h : Visit) (a : ActionId) (x : State) → slice_get vs head ≡ Some h → a.0 ≡ part → step t h.state a ≡ Some x → HasState vs x → IsWalk t g head (part + 1) vs
+  pub pass_known : (h : Visit) (a : ActionId) (x : State) → slice_get vs head ≡ Some h → a.0 ≡ part → step t h.state a ≡ Some x → HasState vs x → IsWalk t head (part + 1) vs
   pass_known h a x at_h is_part to_x known = record {
     path = is.path;
     ways = is.ways;
@@ -73,7 +72,6 @@ module _ (t : PlainTask) (g : GoalId) (head part : ℕ) (vs : List Visit) (is : 
     near = is.near;
     differ = is.differ;
     closed = is.closed;
-    missed = is.missed;
     begun = λ v b u at low e. elim (cases_eq b.0 part) [
       | inl same ↦
           let one : h ≡ v = same_at vs head h v at_h at in
@@ -91,10 +89,10 @@ module _ (t : PlainTask) (g : GoalId) (head part : ℕ) (vs : List Visit) (is : 
     ];
   }
 
-  -- an action that leads to a new state, where the goal does not hold
-  pub push_new : (h : Visit) (a : ActionId) (x : State) → slice_get vs head ≡ Some h → a.0 ≡ part → step t h.state a ≡ Some x → goal_holds t g x ≡ false
-      → (HasState vs x → ⊥) → IsWalk t g head (part + 1) (vs ++ record { state = x; parent = head; action = a } ∷ [])
-  push_new h a x at_h is_part to_x misses fresh =
+  -- an action that leads to a new state
+  pub push_new : (h : Visit) (a : ActionId) (x : State) → slice_get vs head ≡ Some h → a.0 ≡ part → step t h.state a ≡ Some x
+      → (HasState vs x → ⊥) → IsWalk t head (part + 1) (vs ++ record { state = x; parent = head; action = a } ∷ [])
+  push_new h a x at_h is_part to_x fresh =
       let new : Visit = record { state = x; parent = head; action = a } in
       let n : ℕ = length vs in
       let p : List ActionId = is.path head ++ a ∷ [] in
@@ -159,14 +157,10 @@ module _ (t : PlainTask) (g : GoalId) (head part : ℕ) (vs : List Visit) (is : 
                   record { place = n; visit = new; at = pushed_new vs new; state = some_same x u (sym to ∙ e); short = omega arith }
               | inr other ↦ weaken more (vs ++ new ∷ []) u _ _ (omega arith) (has_visit_pushed is.path vs new p u _ (is.begun v b u old_v (omega arith) e))
             ];
-        missed = λ k v at. elim (pushed_cases vs new v k at) [
-          | inl old ↦ is.missed k v old
-          | inr here ↦ ap (λ (y : Visit). goal_holds t g y.state) here.1 ∙ misses
-        ];
       }
 
   -- all actions are followed
-  pub next_head : length t.actions ≤ part → head < length vs → IsWalk t g (head + 1) 0 vs
+  pub next_head : length t.actions ≤ part → head < length vs → IsWalk t (head + 1) 0 vs
   next_head all within = record {
     path = is.path;
     ways = is.ways;
@@ -174,7 +168,6 @@ module _ (t : PlainTask) (g : GoalId) (head part : ℕ) (vs : List Visit) (is : 
     first = is.first;
     rise = is.rise;
     differ = is.differ;
-    missed = is.missed;
     near = λ k within_next within_k. omega (arith, is.near k within within_k, is.rise head (head + 1) (omega arith) within_next);
     closed = λ k v a u lt at e. elim (cases_eq k head) [
       | inl same ↦
@@ -188,61 +181,13 @@ module _ (t : PlainTask) (g : GoalId) (head part : ℕ) (vs : List Visit) (is : 
     begun = λ v a u at low e. absurd (omega arith);
   }
 
-  -- what a sequence from a visited state reaches is visited, or the sequence is longer than the path of the head
-  reach : (q : List ActionId) (j : ℕ) (v : Visit) (n : ℕ) (u : State) → slice_get vs j ≡ Some v → length (is.path j) ≤ n → after t [] v.state q ≡ Some u
-      → HasVisit is.path vs u (n + length q) ⊎ ((head < length vs) × (length (is.path head) < n + length q))
-  reach [] j v n u at short e = inl (record { place = j; visit = v; at = at; state = some_same v.state u (sym (after_nothing t v.state) ∙ e); short = omega arith })
-  reach (a ∷ q) j v n u at short e =
-      let s = first_step t v.state a q u e in
-      elim (cases_lt j head) [
-        | inl done ↦
-            let x = is.closed j v a s.0 done at s.1 in
-            elim (reach q x.place x.visit (n + 1) u x.at (omega (arith, x.short)) (subst (λ y. after t [] y q ≡ Some u) (sym x.state) s.2)) [
-              | inl found ↦ inl (weaken is.path vs u _ _ (omega arith) found)
-              | inr far ↦ inr (far.0, omega (arith, far.1))
-            ]
-        | inr waits ↦
-            let j_in : j < length vs = slice_get_within vs j v at in
-            inr (omega arith, omega (arith, is.rise head j waits j_in))
-      ]
-
-  -- a sequence to the goal is longer than the path of the head, as no visited state satisfies it
-  pub far : (p : List ActionId) → IsPlan t g [] p → (head < length vs) × (length (is.path head) < length p)
-  far p plan =
-      let s = some_and (after t [] (start_of t) p) (λ u. IsTrue (goal_holds t g u)) plan in
-      elim (reach p is.first.place is.first.visit 0 s.0 is.first.at is.first.short (subst (λ y. after t [] y p ≡ Some s.0) (sym is.first.state) s.1)) [
-        | inl found ↦ absurd (false≢true (sym (is.missed found.place found.visit found.at) ∙ ap (goal_holds t g) found.state ∙ s.2))
-        | inr beyond ↦ (beyond.0, omega (arith, beyond.1))
-      ]
-
-  pub found_least : (h : Visit) (a : ActionId) → slice_get vs head ≡ Some h → LeadsToGoal t g h.state a → IsOptimal t g [] (is.path head ++ a ∷ [])
-  found_least h a at_h leads =
-      let p : List ActionId = is.path head ++ a ∷ [] in
-      let s = some_and (step t h.state a) (λ u. IsTrue (goal_holds t g u)) leads in
-      let to : after t [] (start_of t) p ≡ Some s.0 = after_push t (start_of t) (is.path head) a ∙ ap (option_and_then (λ u. step t u a)) (is.leads head h at_h) ∙ s.1 in
-      let plan : IsPlan t g [] p = subst (λ o. IsSomeAnd o (λ u. IsTrue (goal_holds t g u))) (sym to) s.2 in
-      (plan, ((p, refl, plan), λ q other. omega (arith, (far q other).1, length_push (is.path head) a)))
-
-  pub found_none : length vs ≤ head → IsCost t g [] None
-  found_none all p plan = let beyond : head < length vs = (far p plan).0 in omega arith
-
-  -- every visited state counts
-  counts : head < length vs → (k : ℕ) (v : Visit) → slice_get vs k ≡ Some v → IsReachedFor t g v.state
-  counts within k v at = record {
-    path = is.path k;
-    leads = is.leads k v at;
-    within = λ c cost.
-        let plan = cost.0 in
-        omega (arith, (far plan.0 plan.2).1, plan.1, is.near k within (slice_get_within vs k v at));
-  }
-
   -- more visits than the limit, each with the property
   pub many_visits : (P : State → Type 0) → ((k : ℕ) (v : Visit) → slice_get vs k ≡ Some v → P v.state) → (limit : ℕ) → limit < length vs → MoreThan limit P
   many_visits P each limit many =
       let states : List State = map (λ v. v.state) vs in
       let same : length states ≡ length vs = length-map vs (λ v. v.state) in
       record {
-        states = states;
+        items = states;
         many = omega arith;
         differ = λ i j d lt within_j alike.
             let x = at_of_map (λ (v : Visit). v.state) vs i (get_or states i d) (slice_get-get_or states i d (omega arith)) in
@@ -254,42 +199,34 @@ module _ (t : PlainTask) (g : GoalId) (head part : ℕ) (vs : List Visit) (is : 
       }
 
 -- one action more, from the state at the head
-module _ (t : PlainTask) (g : GoalId) (limit head : ℕ) (from : State) (a : ActionId) (vs : List Visit) (is : Expands t g limit head a.0 from vs) where
+module _ (t : PlainTask) (limit head : ℕ) (from : State) (a : ActionId) (vs : List Visit) (is : Expands t limit head a.0 from vs) where
   module _ (x : State) (to_x : step t from a ≡ Some x) where
-    follow_known : HasState vs x → Expands t g limit head (a.0 + 1) from vs
+    follow_known : HasState vs x → Expands t limit head (a.0 + 1) from vs
     follow_known known = record {
-      walk = pass_known t g head a.0 vs is.walk is.visit a x is.here refl (ap (λ s. step t s a) is.state ∙ to_x) known;
+      walk = pass_known t head a.0 vs is.walk is.visit a x is.here refl (ap (λ s. step t s a) is.state ∙ to_x) known;
       few = is.few;
       visit = is.visit;
       here = is.here;
       state = is.state;
     }
 
-    module _ (misses : goal_holds t g x ≡ false) where
-      pub pushed : (HasState vs x → ⊥) → IsWalk t g head (a.0 + 1) (vs ++ record { state = x; parent = head; action = a } ∷ [])
-      pushed fresh = push_new t g head a.0 vs is.walk is.visit a x is.here refl (ap (λ s. step t s a) is.state ∙ to_x) misses fresh
+    pub pushed : (HasState vs x → ⊥) → IsWalk t head (a.0 + 1) (vs ++ record { state = x; parent = head; action = a } ∷ [])
+    pushed fresh = push_new t head a.0 vs is.walk is.visit a x is.here refl (ap (λ s. step t s a) is.state ∙ to_x) fresh
 
-      pub follow_noted : (ws : List Visit) → IsNoted vs ws (record { state = x; parent = head; action = a }) → length ws ≤ limit → Expands t g limit head (a.0 + 1) from ws
-      follow_noted ws noted few = elim noted [
-        | inl known ↦ subst (λ us. Expands t g limit head (a.0 + 1) from us) (sym known.1) (follow_known known.0)
-        | inr fresh ↦ record {
-          walk = subst (λ us. IsWalk t g head (a.0 + 1) us) (sym fresh.1) (pushed fresh.0);
-          few = few;
-          visit = is.visit;
-          here = subst (λ us. slice_get us head ≡ Some is.visit) (sym fresh.1) (pushed_old vs (record { state = x; parent = head; action = a }) is.visit head is.here);
-          state = is.state;
-        }
-      ]
+    pub follow_noted : (ws : List Visit) → IsNoted vs ws (record { state = x; parent = head; action = a }) → length ws ≤ limit → Expands t limit head (a.0 + 1) from ws
+    follow_noted ws noted few = elim noted [
+      | inl known ↦ subst (λ us. Expands t limit head (a.0 + 1) from us) (sym known.1) (follow_known known.0)
+      | inr fresh ↦ record {
+        walk = subst (λ us. IsWalk t head (a.0 + 1) us) (sym fresh.1) (pushed fresh.0);
+        few = few;
+        visit = is.visit;
+        here = subst (λ us. slice_get us head ≡ Some is.visit) (sym fresh.1) (pushed_old vs (record { state = x; parent = head; action = a }) is.visit head is.here);
+        state = is.state;
+      }
+    ]
 
-      pub follow_many : length vs ≡ limit → (HasState vs x → ⊥) → MoreThan limit (IsReachedFor t g)
-      follow_many full fresh =
-          let ws : List Visit = vs ++ record { state = x; parent = head; action = a } ∷ [] in
-          let long : length ws ≡ length vs + 1 = length_push vs (record { state = x; parent = head; action = a }) in
-          let walk = pushed fresh in
-          many_visits t g head (a.0 + 1) ws walk (IsReachedFor t g) (counts t g head (a.0 + 1) ws walk (omega (arith, slice_get_within vs head is.visit is.here))) limit (omega arith)
-
-pub walk_begins : (t : PlainTask) (g : GoalId) (first : Visit) → first.state ≡ start_of t → goal_holds t g (start_of t) ≡ false → IsWalk t g 0 0 (first ∷ [])
-walk_begins t g first is_start misses =
+pub walk_begins : (t : PlainTask) (first : Visit) → first.state ≡ start_of t → IsWalk t 0 0 (first ∷ [])
+walk_begins t first is_start =
     let none : ℕ → List ActionId = λ k. [] in
     record {
       path = none;
@@ -305,7 +242,6 @@ walk_begins t g first is_start misses =
       differ = λ j k v w lt p q same. (let within : k < 1 = slice_get_within (first ∷ []) k w q in omega arith);
       closed = λ k v a u lt at e. absurd (omega arith);
       begun = λ v a u at low e. absurd (omega arith);
-      missed = λ k v at. ap (λ (x : Visit). goal_holds t g x.state) (only k v at) ∙ ap (goal_holds t g) is_start ∙ misses;
     }
   where
     only : (k : ℕ) (v : Visit) → slice_get (first ∷ []) k ≡ Some v → v ≡ first
@@ -313,8 +249,8 @@ walk_begins t g first is_start misses =
     only (suc k) v at = cc
 
 -- the actions that are passed over lead nowhere
-pub expands_on : (t : PlainTask) (g : GoalId) (limit head part more : ℕ) (from : State) (vs : List Visit) → IsGap t part more → Expands t g limit head part from vs → Expands t g limit head more from vs
-expands_on t g limit head part more from vs gap is =
+pub expands_on : (t : PlainTask) (limit head part more : ℕ) (from : State) (vs : List Visit) → IsGap t part more → Expands t limit head part from vs → Expands t limit head more from vs
+expands_on t limit head part more from vs gap is =
     let walk = is.walk in
     record {
       walk = record {
@@ -327,7 +263,6 @@ expands_on t g limit head part more from vs gap is =
         differ = walk.differ;
         closed = walk.closed;
         begun = λ v a u at low e. walk.begun v a u at (gap v.state u a e low) e;
-        missed = walk.missed;
       };
       few = is.few;
       visit = is.visit;
@@ -336,17 +271,10 @@ expands_on t g limit head part more from vs gap is =
     }
 
 -- all actions of the state at the head are followed
-pub head_done : (t : PlainTask) (g : GoalId) (limit head part : ℕ) (from : State) (vs : List Visit) → length t.actions ≤ part → Expands t g limit head part from vs → IsExpanded t g limit (head + 1) vs
-head_done t g limit head part from vs all is = record { walk = next_head t g head part vs is.walk all (slice_get_within vs head is.visit is.here); few = is.few }
+pub head_done : (t : PlainTask) (limit head part : ℕ) (from : State) (vs : List Visit) → length t.actions ≤ part → Expands t limit head part from vs → IsExpanded t limit (head + 1) vs
+head_done t limit head part from vs all is = record { walk = next_head t head part vs is.walk all (slice_get_within vs head is.visit is.here); few = is.few }
 
 -- the start alone
-pub begins : (t : PlainTask) (g : GoalId) (limit : ℕ) (ws : List Visit) → IsBegun t ws → goal_holds t g (start_of t) ≡ false → 1 ≤ limit → IsExpanded t g limit 0 ws
-begins t g limit ws is misses some =
-    record { walk = subst (λ us. IsWalk t g 0 0 us) (sym is.only) (walk_begins t g is.visit is.state misses); few = omega (arith, ap length is.only) }
-
--- the way to the head and an action that leads from there to the goal are a plan
-pub led_least : (t : PlainTask) (g : GoalId) (limit head : ℕ) (from : State) (a : ActionId) (vs : List Visit) (is : Expands t g limit head a.0 from vs) → LeadsToGoal t g from a
-    → (way plan : List ActionId) → way ≡ is.walk.path head → plan ≡ way ++ a ∷ [] → IsOptimal t g [] plan
-led_least t g limit head from a vs is leads way plan same more =
-    subst (λ p. IsOptimal t g [] p) (ap (λ p. p ++ a ∷ []) (sym same) ∙ sym more)
-    (found_least t g head a.0 vs is.walk is.visit a is.here (subst (λ s. LeadsToGoal t g s a) (sym is.state) leads))
+pub begins : (t : PlainTask) (limit : ℕ) (ws : List Visit) → IsBegun t ws → 1 ≤ limit → IsExpanded t limit 0 ws
+begins t limit ws is some =
+    record { walk = subst (λ us. IsWalk t 0 0 us) (sym is.only) (walk_begins t is.visit is.state); few = omega (arith, ap length is.only) }

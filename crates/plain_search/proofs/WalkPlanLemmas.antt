@@ -1,17 +1,15 @@
 -- Sequences of steps with no action removed.
-use Rattle.std.proofs.Common.{◌≡◌, ℕ, ◌<◌, ◌≤◌, true, cond, List, [], ◌∷◌, ◌++◌, length, reverse, append_assoc, refl, sym, ◌∙◌, ap, inl, inr, arith, Option, Some, None, Result, Ok, Err}
+use Rattle.std.proofs.Common.{◌≡◌, ℕ, ◌<◌, ◌≤◌, cond, List, [], ◌∷◌, ◌++◌, length, reverse, append_assoc, refl, sym, ◌∙◌, ap, inl, inr, Option, Some, None, Result, Ok, Err}
 use Rattle.std.proofs.lemmas.List.{reverse-append}
 use Rattle.plain_search.specs.Walks.{Visit, AreWays}
-use Rattle.std.specs.Prelude.{slice_get, IsSomeAnd, IsErrAnd, IfSome, IfOk, IsTrue, All}
+use Rattle.std.specs.Prelude.{slice_get, IsSomeAnd, IsErrAnd, All}
 use Rattle.std.specs.Option.{option_and_then}
 use Rattle.std.proofs.lemmas.Bool.{cases_lt}
 use Rattle.std.proofs.lemmas.Option.{slice_get_past}
 use Rattle.std.proofs.lemmas.List.Elements.{All-cons, All-nil}
 use Rattle.grd_base.specs.declared.ids.ActionId.{ActionId}
 use Rattle.strips_model.specs.Values.{PlainTask}
-use mathlib.Core.Path.{subst}
-use Rattle.grd_base.specs.declared.ids.GoalId.{GoalId}
-use Rattle.strips_model.specs.Plans.{State, after, step, step_without, can_apply, effect, start_of, goal_holds, IsPlan, IsOptimal}
+use Rattle.strips_model.specs.Plans.{State, after, step, step_without, can_apply, effect}
 
 pub some_same : {X : Type 0} (x y : X) → Some x ≡ Some y → x ≡ y
 some_same x y e = cc
@@ -19,10 +17,6 @@ some_same x y e = cc
 pub some_and : {X : Type 0} (o : Option X) (P : X → Type 0) → IsSomeAnd o P → (x : X) × (o ≡ Some x) × P x
 some_and None P h = absurd h
 some_and (Some x) P h = (x, refl, h)
-
-pub if_some : {X : Type 0} (o : Option X) (P : X → Type 0) (x : X) → IfSome o P → o ≡ Some x → P x
-if_some None P x h e = cc
-if_some (Some y) P x h e = subst P (some_same y x e) h
 
 -- the first step and what is left
 after_first : (t : PlainTask) (s : State) (a : ActionId) (p : List ActionId) → after t [] s (a ∷ p) ≡ option_and_then (λ u. after t [] u p) (step t s a)
@@ -85,18 +79,3 @@ way_back path vs at v back more whole parent action ways positive here is_parent
 pub passed_on : {T U E : Type 0} (r : Result T E) (x e : E) → IsErrAnd r (λ y. y ≡ x) → r ≡ Err e → ◌≡◌ {A = Result U E} (Err x) (Err e)
 passed_on (Ok y) x e h is = absurd h
 passed_on (Err y) x e h is = let same : y ≡ e = cc in ap Err (sym h ∙ same)
-
--- the actions of an optimal plan are those of the task
-pub in_range : {V E : Type 0} (items : V → List ActionId) (t : PlainTask) (g : GoalId) (r : Result (Option V) E) → IfOk r (λ answer. IfSome answer (λ plan. IsOptimal t g [] (items plan)))
-    → IfOk r (λ answer. IfSome answer (λ plan. All (λ a. a.0 < length t.actions) (items plan)))
-in_range items t g (Err e) h = tt
-in_range items t g (Ok None) h = tt
-in_range items t g (Ok (Some v)) h =
-    let s = some_and (after t [] (start_of t) (items v)) (λ u. IsTrue (goal_holds t g u)) h.0 in
-    all_actions t (start_of t) s.0 (items v) s.1
-
--- where the goal holds at the start, no action is needed
-pub at_start : (t : PlainTask) (g : GoalId) → goal_holds t g (start_of t) ≡ true → IsOptimal t g [] []
-at_start t g holds =
-    let plan : IsPlan t g [] [] = subst (λ o. IsSomeAnd o (λ u. IsTrue (goal_holds t g u))) (sym (after_nothing t (start_of t))) holds in
-    (plan, (([], refl, plan), λ p other. omega arith))

@@ -11,7 +11,8 @@ use Rattle.grd_base.specs.declared.ids.GoalId.{GoalId}
 use Rattle.strips_model.specs.Values.{PlainTask, PlainWitness}
 use Rattle.strips_model.specs.Plans.{after, start_of, goal_holds, IsCost, IsOptimal, IsPlan}
 use Rattle.strips_model.specs.Common.{HasPlan, IsWcd, AreRight, IsWitness, IsRightWcd}
-use Rattle.strips_model.specs.Reached.{IsReachedFor, MoreThan}
+use Rattle.grd_base.specs.Counts.{MoreThan}
+use Rattle.strips_model.specs.Reached.{IsReachedFor}
 use Rattle.plain_search.specs.Walks.{Visit}
 use Rattle.plain_search.specs.Layers.{IsWithin, IsLayered}
 use Rattle.plain_search.specs.Live.{AreCosts, AreDeep, IsDearest}
@@ -85,7 +86,7 @@ module _ (t : PlainTask) (costs : List (Option ℕ)) (are : AreCosts t costs) wh
 -- more states within the cost of a goal are reached for the goal
 pub reached_within : (t : PlainTask) (g : GoalId) (c limit : ℕ) → IsCost t g [] (Some c) → MoreThan limit (IsWithin t c) → MoreThan limit (IsReachedFor t g)
 reached_within t g c limit cost more = record {
-  states = more.states;
+  items = more.items;
   many = more.many;
   differ = more.differ;
   have = λ k d within.

@@ -1,6 +1,5 @@
 -- How deep the visited states are while a walk goes on.
 use Rattle.std.specs.Prelude.{◌≡◌, ℕ, ◌+◌, ◌<◌, ◌≤◌, List, [], ◌∷◌, length, Some, slice_get}
-use Rattle.grd_base.specs.declared.ids.GoalId.{GoalId}
 use Rattle.strips_model.specs.Values.{PlainTask}
 use Rattle.strips_model.specs.Plans.{State, start_of}
 use Rattle.plain_search.specs.Walks.{Visit, IsExpanded, Expands}
@@ -11,10 +10,6 @@ pub record IsBegun (t : PlainTask) (vs : List Visit) : Type 0 where
   pub only : vs ≡ visit ∷ []
   pub state : visit.state ≡ start_of t
 
--- the number of no goal of the task: it never holds, so a walk to it passes no state
-abbrev pub no_goal : PlainTask → GoalId
-no_goal t = record { 0 = length t.goals }
-
 -- the first visit has depth 0, and each other one is one deeper than the visit before it
 pub record AreDepths (vs : List Visit) (depths : List ℕ) : Type 0 where
   pub same_length : length depths ≡ length vs
@@ -24,13 +19,13 @@ pub record AreDepths (vs : List Visit) (depths : List ℕ) : Type 0 where
 
 -- all states before the head are expanded, and none is deeper than so many steps
 pub record IsDeepened (t : PlainTask) (limit steps head : ℕ) (vs : List Visit) (ds : List ℕ) : Type 0 where
-  pub walk : IsExpanded t (no_goal t) limit head vs
+  pub walk : IsExpanded t limit head vs
   pub depths : AreDepths vs ds
   pub within : (k n : ℕ) → slice_get ds k ≡ Some n → n ≤ steps
 
 -- the state at the head is `from`, and is being expanded; `deeper` is one more than its depth
 pub record Deepens (t : PlainTask) (limit head part : ℕ) (from : State) (deeper : ℕ) (vs : List Visit) (ds : List ℕ) : Type 0 where
-  pub walk : Expands t (no_goal t) limit head part from vs
+  pub walk : Expands t limit head part from vs
   pub depths : AreDepths vs ds
   pub depth : ℕ
   pub here : slice_get ds head ≡ Some depth

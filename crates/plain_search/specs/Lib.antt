@@ -1,3 +1,4 @@
+pub mod Plans
 pub mod Walks
 pub mod Layers
 pub mod Depths

@@ -1,11 +1,10 @@
 -- What a walk through the states of a task has visited.
-use Rattle.std.specs.Prelude.{◌≡◌, ℕ, ◌+◌, ◌<◌, ◌≤◌, false, List, [], ◌∷◌, ◌++◌, length, map, Some, slice_get, Any, ◌⊎◌, IsSomeAnd, IsTrue}
+use Rattle.std.specs.Prelude.{◌≡◌, ℕ, ◌+◌, ◌<◌, ◌≤◌, List, [], ◌∷◌, ◌++◌, length, map, Some, slice_get, Any, ◌⊎◌}
 use Rattle.grd_base.specs.declared.ids.ActionId.{ActionId}
-use Rattle.grd_base.specs.declared.ids.GoalId.{GoalId}
 use Rattle.grd_base.specs.declared.bits.Bits.{Bits}
 use Rattle.grd_base.specs.Bits.{members, IsWhole}
 use Rattle.strips_model.specs.Values.{PlainTask}
-use Rattle.strips_model.specs.Plans.{State, after, step, start_of, goal_holds}
+use Rattle.strips_model.specs.Plans.{State, after, step, start_of}
 use Rattle.plain_search.specs.declared.visited.Step.{Step}
 
 -- a visited state, with the place of the state before it and the action between the two
@@ -55,8 +54,8 @@ pub record HasVisit (path : ℕ → List ActionId) (vs : List Visit) (u : State)
   pub short : length (path place) ≤ n
 
 -- every visited state before the head has all its successors visited, and the state at the head
--- those by its first `part` actions; no visited state satisfies the goal
-pub record IsWalk (t : PlainTask) (g : GoalId) (head part : ℕ) (vs : List Visit) : Type 0 where
+-- those by its first `part` actions
+pub record IsWalk (t : PlainTask) (head part : ℕ) (vs : List Visit) : Type 0 where
   pub path : ℕ → List ActionId
   pub ways : AreWays path vs
   pub leads : (k : ℕ) (v : Visit) → slice_get vs k ≡ Some v → after t [] (start_of t) (path k) ≡ Some v.state
@@ -68,21 +67,16 @@ pub record IsWalk (t : PlainTask) (g : GoalId) (head part : ℕ) (vs : List Visi
       → step t v.state a ≡ Some u → HasVisit path vs u (length (path k) + 1)
   pub begun : (v : Visit) (a : ActionId) (u : State) → slice_get vs head ≡ Some v → a.0 < part
       → step t v.state a ≡ Some u → HasVisit path vs u (length (path head) + 1)
-  pub missed : (k : ℕ) (v : Visit) → slice_get vs k ≡ Some v → goal_holds t g v.state ≡ false
 
 -- all states before the head are expanded, and no more states are kept than the limit allows
-pub record IsExpanded (t : PlainTask) (g : GoalId) (limit head : ℕ) (vs : List Visit) : Type 0 where
-  pub walk : IsWalk t g head 0 vs
+pub record IsExpanded (t : PlainTask) (limit head : ℕ) (vs : List Visit) : Type 0 where
+  pub walk : IsWalk t head 0 vs
   pub few : length vs ≤ limit
 
 -- the state at the head is `from`, and is being expanded
-pub record Expands (t : PlainTask) (g : GoalId) (limit head part : ℕ) (from : State) (vs : List Visit) : Type 0 where
-  pub walk : IsWalk t g head part vs
+pub record Expands (t : PlainTask) (limit head part : ℕ) (from : State) (vs : List Visit) : Type 0 where
+  pub walk : IsWalk t head part vs
   pub few : length vs ≤ limit
   pub visit : Visit
   pub here : slice_get vs head ≡ Some visit
   pub state : visit.state ≡ from
-
--- the action leads from the state to one where the goal holds
-abbrev pub LeadsToGoal : PlainTask → GoalId → State → ActionId → Type 0
-LeadsToGoal t g s a = IsSomeAnd (step t s a) (λ u. IsTrue (goal_holds t g u))

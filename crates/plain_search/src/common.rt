@@ -2,22 +2,21 @@ ghost use Rattle.std.specs.Prelude.{◌≡◌, ℕ, ◌+◌, ◌*◌, ◌<◌, �
 ghost use Rattle.std.specs.Option.{option_map};
 ghost use Rattle.strips_model.specs.Plans.{IsCost};
 ghost use Rattle.strips_model.specs.Common.{AreRight, IsRightWcd, IsWcd, IsWitness};
-ghost use Rattle.strips_model.specs.Reached.{IsReachedFor, MoreThan};
+ghost use Rattle.grd_base.specs.Counts.{MoreThan};
+ghost use Rattle.strips_model.specs.Reached.{IsReachedFor};
 ghost use Rattle.plain_search.specs.Walks.{visits};
 ghost use Rattle.plain_search.specs.Layers.{IsLayered};
 ghost use Rattle.plain_search.specs.Live.{AreCosts, AreDeep, AreFewFrom, IsDearest, IsLiveFrom, ShareAt};
 
 use crate::completion::complete;
-use crate::faults::GoalSearchFault;
 use crate::layers::{Layers, layers_within};
 use crate::live::{Shared, last_shared};
 use crate::moves::Moves;
 use crate::visited::WalkFault;
-use crate::walk::fits;
-use crate::width::by_width;
-use grd_base::{ActionId, Bits, GoalId, OutOfMemory};
+use grd_base::{ActionId, Bits, GoalId, OutOfMemory, by_width};
+use optimal_search::GoalSearchFault;
 use std::alloc::{AllocError, Global};
-use strips_model::{Task, Witness};
+use strips_model::{Task, Witness, fits};
 
 /// The length of the plan, if there is one.
 fn cost_of(plan: &Option<Vec<ActionId>>) -> Option<usize>

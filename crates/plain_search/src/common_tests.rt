@@ -2,7 +2,8 @@ ghost use Rattle.std.specs.Prelude.{◌≤◌};
 
 use super::*;
 use crate::tests::{A, B, L, R, fork, from_to, only};
-use grd_base::{ActionId, AtomId, GoalId};
+use grd_base::{ActionId, AtomId, GoalId, Limits};
+use optimal_search::{GoalSearchFault, costs};
 use std::alloc::Global;
 use std::test::Fail;
 use strips_model::{Task, Witness};
@@ -44,10 +45,15 @@ fn two_ways(alloc: Global) -> Result<Task, Fail> {
 }
 
 fn answer(alloc: Global, task: &Task, limit: u32) -> Result<Option<Witness>, GoalSearchFault>
-    requires { 1 ≤ limit }
+    requires { (1 ≤ limit) × (limit ≤ 1000000) }
 {
-    let found = costs(alloc, task, limit)?;
-    wcd(alloc, task, found.as_slice(), limit)
+    let limits = Limits {
+        states: limit,
+        sets: 0,
+    };
+    let found = costs(alloc, task, limits)?;
+    let plans = plans_of(alloc, task, limit, found)?;
+    wcd(alloc, task, plans.as_slice(), limit)
 }
 
 fn is_witness(

@@ -1,16 +1,16 @@
 ghost use Rattle.std.specs.Prelude.{◌≡◌, ◌+◌, ◌<◌, ◌*◌, ◌≤◌, IfOk, OnOk, length};
 ghost use Rattle.grd_base.specs.Bits.{members};
-ghost use Rattle.strips_model.specs.Reached.{MoreThan};
+ghost use Rattle.grd_base.specs.Counts.{MoreThan};
 ghost use Rattle.plain_search.specs.Walks.{visits};
 ghost use Rattle.plain_search.specs.Layers.{IsWithin, IsLayered};
 ghost use Rattle.plain_search.specs.Depths.{Deepens, IsDeepened};
 
 use crate::moves::Moves;
 use crate::visited::{Step, Visited, WalkFault};
-use crate::walk::{advance, begin};
+use crate::walk::begin;
 use grd_base::{ActionId, Bits};
 use std::alloc::Global;
-use strips_model::Task;
+use strips_model::{Task, advance};
 
 /// The states within some number of steps from the start, in the order of their depths.
 #[derive(Drop)]

@@ -1,20 +1,17 @@
-// Costs of goals, and how long two goals can't be told apart, by plain walks through the states.
+// How long two goals can't be told apart, by plain walks through the states.
 #![tactic(auto)]
 
 mod common;
 mod completion;
-mod cost;
-mod faults;
 mod layers;
 mod live;
 mod moves;
+mod plans;
 mod visited;
 mod walk;
-mod width;
 
 pub use common::wcd;
-pub use cost::costs;
-pub use faults::GoalSearchFault;
+pub use plans::plans_of;
 
 #[cfg(test)]
 mod common_tests;

@@ -6,9 +6,8 @@ ghost use Rattle.plain_search.specs.Live.{AreCosts, AreDeep, IsVisited, LeadsTo,
 
 use crate::layers::Layers;
 use crate::moves::Moves;
-use crate::walk::advance;
 use grd_base::{ActionId, Bits, GoalId};
-use strips_model::{Task, holds};
+use strips_model::{Task, advance, holds};
 
 /// The place of the state that the action leads to, if that state is one step deeper.
 pub(crate) fn next_place<const W: usize>(

@@ -67,41 +67,6 @@ pub(crate) const L: ActionId = ActionId(2);
 
 pub(crate) const R: ActionId = ActionId(3);
 
-fn is_plan(found: Option<&Option<Vec<ActionId>>>, plan: &[ActionId]) -> bool {
-    match found {
-        Some(Some(found)) => found.as_slice() == plan,
-        _ => false,
-    }
-}
-
-#[test]
-fn each_goal_of_fork_has_its_plan(rt: HostRuntime) -> Result<(), Fail> {
-    let task = fork(rt.alloc(), 3, 4)?;
-    let found = costs(rt.alloc(), &task, 4).map_err(|_| "no plans")?;
-    assert_eq!(rt; found.len(), 2);
-    assert!(rt; is_plan(found.get(0), &[A, B, L]) && is_plan(found.get(1), &[A, B, R]));
-    Ok(())
-}
-
-#[test]
-fn a_goal_that_holds_at_the_start_needs_no_action(rt: HostRuntime) -> Result<(), Fail> {
-    let task = fork(rt.alloc(), 0, 5)?;
-    let found = costs(rt.alloc(), &task, 5).map_err(|_| "no plans")?;
-    assert!(rt; is_plan(found.get(0), &[]) && matches!(found.get(1), Some(None)));
-    Ok(())
-}
-
-#[test]
-fn the_goal_that_meets_the_limit_is_told(rt: HostRuntime) -> Result<(), Fail> {
-    for (first, second, limit, goal) in [(3, 4, 2, 0), (1, 4, 2, 1), (0, 5, 4, 1)] {
-        let task = fork(rt.alloc(), first, second)?;
-        let fault = costs(rt.alloc(), &task, limit).err();
-        let want = Some(GoalSearchFault::TooManyStates(GoalId(goal)));
-        assert_eq!(rt; fault, want, "goals {first} and {second}, {limit} states");
-    }
-    Ok(())
-}
-
 #[test]
 fn layers_end_at_the_steps(rt: HostRuntime) -> Result<(), Fail> {
     let task = fork(rt.alloc(), 3, 4)?;

@@ -11,7 +11,8 @@ use Rattle.grd_base.specs.declared.limits.Bound.{Bound}
 use Rattle.grd_base.specs.declared.limits.Bound.TheVariants.{Steps, Never}
 use Rattle.search_core.specs.declared.rows.KeptRow.{KeptRow}
 use Rattle.search_core.specs.declared.rows.WithinAnswer.TheVariants as answer
-use Rattle.search_core.specs.Spaces.{Successors, IsDoneWithin, IsAdmissible, IsAbove, IsAtLeast, Counts, AllDistinct}
+use Rattle.grd_base.specs.Counts.{AllDistinct}
+use Rattle.search_core.specs.Spaces.{Successors, IsDoneWithin, IsAdmissible, IsAbove, IsAtLeast, Counts}
 use Rattle.search_core.specs.Tables.{HasRow, HasNeverRow, IsRefuted, IsRefutedBySteps, IsRefutedByMark, AreRefuted, AreCounted, unmarked, with_unmarked}
 use Rattle.search_core.specs.Answers.{IsBeyond}
 use Rattle.search_core.specs.Progress.{Entry, IsProgress, IsKept, IsCutOff, IsCut, IsHeldBy, kept_states, state_if_kept}

@@ -5,7 +5,7 @@ use Rattle.std.specs.List.{slice_get, cons_option}
 use Rattle.std.proofs.lemmas.List.{length-append}
 use Rattle.std.proofs.lemmas.List.Elements.{All-cons, All-nil, filter_map-append}
 use Rattle.std.proofs.lemmas.List.Kept.{AllPairs-cons}
-use Rattle.search_core.specs.Spaces.{AllDistinct}
+use Rattle.grd_base.specs.Counts.{AllDistinct}
 use Rattle.search_core.specs.Progress.{Entry, kept_states, state_if_kept}
 
 module _ {S M : Type 0} where

@@ -9,7 +9,8 @@ use Rattle.grd_base.specs.declared.ids.ActionId.{ActionId}
 use Rattle.grd_base.specs.declared.limits.Bound.{Bound}
 use Rattle.grd_base.specs.declared.limits.Bound.TheVariants.{Steps, Never}
 use Rattle.search_core.specs.declared.found.Way.{Way}
-use Rattle.search_core.specs.Spaces.{Successors, end_of, states_on, actions_of, AllDistinct, IsAtLeastLevel, Counts, MoreThan}
+use Rattle.grd_base.specs.Counts.{AllDistinct, MoreThan}
+use Rattle.search_core.specs.Spaces.{Successors, end_of, states_on, actions_of, IsAtLeastLevel, Counts}
 use Rattle.search_core.specs.Progress.{Entry, IsHeld, IsReached, IsKept, IsCutOff, IsChild, IsEntry, IsProgress, IsNew, IsCut, kept_states}
 use Rattle.search_core.proofs.PlaceLemmas.{get_push_old, get_push_new, get_push_cases}
 use Rattle.search_core.proofs.KeptLemmas.{kept_all, kept_distinct, count_cut, count_kept}
@@ -186,7 +187,7 @@ module _ {S M : Type 0} (next : Successors S) (is_done : S → Bool) (level : S 
       let reached : IsReached next start (xs ++ e ∷ []) s way.depth = reached_new kept xs e p new in
       let counted : length (kept_states xs ++ s ∷ []) ≡ length (kept_states xs) + 1 = length_push (kept_states xs) s in
       record {
-        states = kept_states xs ++ s ∷ [];
+        items = kept_states xs ++ s ∷ [];
         differ = all_pairs_push (λ a b. a ≢ b) (kept_states xs) s (kept_distinct xs p.apart)
             (λ k d within. All-get_or (λ t. t ≢ s) (kept_states xs) k d within
             (kept_all (λ t. t ≢ s) xs (λ i f got none same. new.fresh (record { place = i; entry = f; at = got; state_is = same }))));

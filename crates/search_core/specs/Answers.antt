@@ -6,7 +6,8 @@ use Rattle.grd_base.specs.declared.limits.Bound.TheVariants.{Steps}
 use Rattle.search_core.specs.declared.rows.KeptRow.{KeptRow}
 use Rattle.search_core.specs.declared.rows.WithinAnswer.{WithinAnswer}
 use Rattle.search_core.specs.declared.rows.WithinAnswer.TheVariants as answer
-use Rattle.search_core.specs.Spaces.{Successors, IsWalk, end_of, states_on, IsPath, IsDoneWithin, AllDistinct}
+use Rattle.grd_base.specs.Counts.{AllDistinct}
+use Rattle.search_core.specs.Spaces.{Successors, IsWalk, end_of, states_on, IsPath, IsDoneWithin}
 use Rattle.search_core.specs.Tables.{HasRow, HasNeverRow}
 
 -- the path leads from the start to a done state, in at most r and at most `limit` steps

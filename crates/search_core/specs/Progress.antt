@@ -6,7 +6,8 @@ use Rattle.grd_base.specs.declared.limits.Bound.{Bound}
 use Rattle.grd_base.specs.declared.limits.Bound.TheVariants.{Steps, Never}
 use Rattle.search_core.specs.declared.found.Found.{Found}
 use Rattle.search_core.specs.declared.found.Way.{Way}
-use Rattle.search_core.specs.Spaces.{Successors, IsWalk, end_of, states_on, IsPath, AllDistinct, Counts}
+use Rattle.grd_base.specs.Counts.{AllDistinct}
+use Rattle.search_core.specs.Spaces.{Successors, IsWalk, end_of, states_on, IsPath, Counts}
 
 -- a state that was found, with what is known of it
 abbrev pub Entry : Type 0 → Type 0 → Type 0

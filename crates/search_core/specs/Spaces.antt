@@ -1,5 +1,5 @@
 -- Paths in a space, done states, levels, and bounds on the steps to a done state.
-use Rattle.std.specs.Prelude.{◌≡◌, ◌≢◌, ℕ, ◌+◌, ◌≤◌, ◌<◌, List, [], ◌∷◌, length, map, Option, Some, None, Bool, true, Contains, All, AllPairs}
+use Rattle.std.specs.Prelude.{◌≡◌, ℕ, ◌+◌, ◌≤◌, ◌<◌, List, [], ◌∷◌, length, map, Option, Some, None, Bool, true, Contains}
 use Rattle.grd_base.specs.declared.ids.ActionId.{ActionId}
 use Rattle.grd_base.specs.declared.limits.Bound.{Bound}
 use Rattle.grd_base.specs.declared.limits.Bound.TheVariants.{Steps, Never}
@@ -75,14 +75,3 @@ pub record Counts {S : Type 0} (next : Successors S) (level : S → Option ℕ) 
   pub height : ℕ
   pub level_is : level s ≡ Some height
   pub near : length path + height ≤ r
-
--- no two are the same
-abbrev pub AllDistinct : {S : Type 0} → List S → Type 0
-AllDistinct states = AllPairs (λ s t. s ≢ t) states
-
--- more than this many states, no two of them the same, have the property
-pub record MoreThan {S : Type 0} (limit : ℕ) (P : S → Type 0) : Type 0 where
-  pub states : List S
-  pub many : limit < length states
-  pub differ : AllDistinct states
-  pub have : All P states

@@ -3,7 +3,8 @@ use Rattle.std.specs.Prelude.{◌≡◌, ℕ, zero, suc, ◌≤◌, List, [], �
 use Rattle.grd_base.specs.declared.limits.Bound.{Bound}
 use Rattle.grd_base.specs.declared.limits.Bound.TheVariants.{Steps, Never}
 use Rattle.search_core.specs.declared.rows.KeptRow.{KeptRow}
-use Rattle.search_core.specs.Spaces.{Successors, IsAtLeast, IsAbove, Counts, AllDistinct}
+use Rattle.grd_base.specs.Counts.{AllDistinct}
+use Rattle.search_core.specs.Spaces.{Successors, IsAtLeast, IsAbove, Counts}
 
 -- some row has this state, with a bound of at least n
 abbrev pub HasRow : {S M : Type 0} → List (KeptRow S M) → S → ℕ → Type 0

@@ -9,7 +9,8 @@ use Rattle.search_core.specs.declared.visits.Question.{Question}
 use Rattle.search_core.specs.declared.found.Way.{Way}
 use Rattle.search_core.specs.declared.rows.KeptRow.{KeptRow}
 use Rattle.search_core.specs.declared.rows.WithinAnswer.{WithinAnswer}
-use Rattle.search_core.specs.Spaces.{Successors, Counts, MoreThan}
+use Rattle.grd_base.specs.Counts.{MoreThan}
+use Rattle.search_core.specs.Spaces.{Successors, Counts}
 use Rattle.search_core.specs.Tables.{AreRefuted, AreCounted}
 use Rattle.search_core.specs.Answers.{IsDonePath, IsTrueAnswer, HasStartRow, HasReason, rows_of}
 use Rattle.search_core.specs.Progress.{Entry, IsProgress, IsNew, IsGrown, IsHeldBy}

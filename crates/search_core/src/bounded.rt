@@ -1,7 +1,8 @@
 ghost use Rattle.std.specs.Prelude.{◌≡◌, map, IfOk};
 ghost use Rattle.std.specs.List.{filter_map, list_any};
 ghost use Rattle.search_core.specs.Answers.{IsTrueAnswer, HasStartRow, HasReason, rows_of};
-ghost use Rattle.search_core.specs.Spaces.{Counts, MoreThan};
+ghost use Rattle.grd_base.specs.Counts.{MoreThan};
+ghost use Rattle.search_core.specs.Spaces.{Counts};
 ghost use Rattle.search_core.specs.Tables.{AreRefuted, AreCounted};
 ghost use Rattle.search_core.specs.Visits.{IsExplored, IsAnswered, AreTooMany, row_within, row_never, is_number, has_number_mark};
 

@@ -9,7 +9,8 @@ use Rattle.grd_base.specs.declared.ids.AtomId.{AtomId}
 use Rattle.grd_base.specs.declared.ids.ActionId.{ActionId}
 use Rattle.grd_base.specs.declared.ids.GoalId.{GoalId}
 use Rattle.strips_model.specs.Values.{PlainTask, GroundAction}
-use Rattle.strips_model.specs.Plans.{State, is_step, step, step_without, after, goal_holds, start_of, IsCost, Embeds}
+use Rattle.strips_model.specs.Cuts.{cut}
+use Rattle.strips_model.specs.Plans.{State, set_of, is_step, step, step_without, after, goal_holds, start_of, IsCost, Embeds}
 use Rattle.strips_model.specs.Worlds.{Instance, World, task_of}
 
 -- atoms by their names, as bytes
@@ -115,6 +116,27 @@ unknown_leads_nowhere = refl
 at0_costs_nothing : IsCost fork_task (goal 2) [] (Some 0)
 unfolding after
 at0_costs_nothing = (([], refl, refl), λ p _. omega arith)
+
+-- which of the numbers 0 to 4 are those of actions in the cut of a set
+abbrev cut_of : List ActionId → List AtomId → List Bool
+cut_of removed u = map (cut fork_task removed (set_of u)) (a ∷ b ∷ l ∷ action 3 ∷ action 4 ∷ [])
+
+-- the sets of fork's start are left by a, by b, and by l and r; none shares an action with another
+start_is_left_by_a : cut_of [] (atom 0 ∷ []) ≡ true ∷ false ∷ false ∷ false ∷ false ∷ []
+unfolding cut
+start_is_left_by_a = refl
+
+before_at2_is_left_by_b : cut_of [] (atom 0 ∷ atom 1 ∷ []) ≡ false ∷ true ∷ false ∷ false ∷ false ∷ []
+unfolding cut
+before_at2_is_left_by_b = refl
+
+before_the_ends_is_left_by_both : cut_of [] (atom 0 ∷ atom 1 ∷ atom 2 ∷ []) ≡ false ∷ false ∷ true ∷ true ∷ false ∷ []
+unfolding cut
+before_the_ends_is_left_by_both = refl
+
+removed_action_is_in_no_cut : cut_of (b ∷ []) (atom 0 ∷ atom 1 ∷ []) ≡ false ∷ false ∷ false ∷ false ∷ false ∷ []
+unfolding cut
+removed_action_is_in_no_cut = refl
 
 abbrev keep : World Name
 keep = record {

@@ -1,5 +1,5 @@
--- Reached states, and when more than some number of states have a property.
-use Rattle.std.specs.Prelude.{◌≡◌, ◌≢◌, ℕ, ◌<◌, ◌≤◌, List, [], length, Some, All, AllPairs}
+-- Reached states.
+use Rattle.std.specs.Prelude.{◌≡◌, ℕ, ◌≤◌, List, [], length, Some}
 use Rattle.grd_base.specs.declared.ids.ActionId.{ActionId}
 use Rattle.grd_base.specs.declared.ids.GoalId.{GoalId}
 use Rattle.strips_model.specs.Values.{PlainTask}
@@ -11,10 +11,3 @@ pub record IsReachedFor (t : PlainTask) (g : GoalId) (u : State) : Type 0 where
   pub path : List ActionId
   pub leads : after t [] (start_of t) path ≡ Some u
   pub within : (c : ℕ) → IsCost t g [] (Some c) → length path ≤ c
-
--- more than this many states, no two of them the same, have the property
-pub record MoreThan (limit : ℕ) (P : State → Type 0) : Type 0 where
-  pub states : List State
-  pub many : limit < length states
-  pub differ : AllPairs (λ s u. s ≢ u) states
-  pub have : All P states

@@ -1,12 +1,18 @@
 // Tasks, their states and their plans.
 #![tactic(auto)]
 
+mod family;
+mod lists;
+mod moves;
 mod steps;
 mod task;
 mod witness;
 
-pub use steps::{applies, apply_in, embeds, holds, run_plan, start};
-pub use task::{Action, Condition, Task};
+pub use family::Family;
+pub use lists::{atoms_of, state_of};
+pub use moves::Moves;
+pub use steps::{advance, applies, apply_in, contains_all, embeds, holds, run_plan, start};
+pub use task::{Action, Condition, Task, fits};
 pub use witness::Witness;
 
 #[cfg(test)]

@@ -7,7 +7,8 @@ ghost use Rattle.strips_model.specs.Plans.{set_of, has_all, start_of, is_step, s
 use crate::task::Task;
 use grd_base::{ActionId, ActionSet, AtomId, Bits, GoalId};
 
-fn contains_all<const W: usize>(s: &Bits<W>, atoms: &[AtomId]) -> bool
+/// Whether each atom of the list is in the state.
+pub fn contains_all<const W: usize>(s: &Bits<W>, atoms: &[AtomId]) -> bool
     requires width { W ≤ 64 }
     requires atoms { All (λ a. a.0 < 64 * W) atoms.now }
     ensures { result ≡ has_all (members s.now) atoms.now }
@@ -20,7 +21,7 @@ fn contains_all<const W: usize>(s: &Bits<W>, atoms: &[AtomId]) -> bool
     true
 }
 
-fn insert_all<const W: usize>(s: &mut Bits<W>, atoms: &[AtomId])
+pub(crate) fn insert_all<const W: usize>(s: &mut Bits<W>, atoms: &[AtomId])
     requires width { W ≤ 64 }
     requires atoms { All (λ a. a.0 < 64 * W) atoms.now }
     ensures { members s.new ≡ union (members s.old) (set_of atoms.now) }
@@ -75,6 +76,21 @@ pub fn apply_in<const W: usize>(task: &Task, s: &mut Bits<W>, a: ActionId)
     let action = &task.actions[a.0 as usize];
     remove_all(s, action.del.as_slice());
     insert_all(s, action.add.as_slice());
+}
+
+/// The state after the step of the action, where it applies.
+pub fn advance<const W: usize>(task: &Task, s: &Bits<W>, a: ActionId) -> Option<Bits<W>>
+    requires width { W ≤ 64 }
+    requires atoms { task.now.atoms ≤ 64 * W }
+    requires action { a.0 < length task.now.actions }
+    ensures { option_map members result ≡ step task.now (members s.now) a }
+{
+    if !applies(task, s, a) {
+        return None;
+    }
+    let mut next = *s;
+    apply_in(task, &mut next, a);
+    Some(next)
 }
 
 /// Whether the goal holds in the state: it is not blocked, and its atoms are true.

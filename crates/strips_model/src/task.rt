@@ -1,3 +1,5 @@
+ghost use Rattle.std.specs.Prelude.{◌*◌, ◌≤◌};
+
 use grd_base::AtomId;
 use std::marker::Model;
 
@@ -61,4 +63,11 @@ impl Model for Task {
     ghost view = { λ t. record { atoms = t.atoms; init = t.init.items; actions = t.actions.items; goals = t.goals.items } };
 
     ghost invariant = { λ t. IsTask (record { atoms = t.atoms; init = t.init.items; actions = t.actions.items; goals = t.goals.items }) };
+}
+
+/// The widest bit sets hold the atoms of any task.
+pub fn fits(task: &Task)
+    ensures { task.now.atoms ≤ 64 * 64 }
+{
+    let _atoms = task.atoms;
 }

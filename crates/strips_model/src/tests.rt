@@ -138,6 +138,33 @@ fn keep_adds_what_it_deletes(rt: HostRuntime) -> Result<(), Fail> {
 }
 
 #[test]
+fn only_allowed_actions_are_moves(rt: HostRuntime) -> Result<(), Fail> {
+    let fork = fork(rt.alloc())?;
+    let removed = ActionSet::new(rt.alloc()).with(rt.alloc(), B)?;
+    let moves = Moves::of(rt.alloc(), &fork, &removed)?;
+    assert_eq!(rt; moves.allowed(), [A, L, ActionId(3)].as_slice());
+    assert_eq!(rt; moves.task().atoms, 5);
+    let keep = keep(rt.alloc())?;
+    let none = ActionSet::new(rt.alloc());
+    assert_eq!(rt;
+        Moves::of(rt.alloc(), &keep, &none)?.allowed(),
+        [A].as_slice()
+    );
+    Ok(())
+}
+
+#[test]
+fn a_step_leads_from_a_state_of_a_list(rt: HostRuntime) -> Result<(), Fail> {
+    let task = fork(rt.alloc())?;
+    let s = state_of::<2>(&[AtomId(2), AtomId(4)]);
+    assert!(rt; s.contains(2) && s.contains(4) && !s.contains(0));
+    let left = advance(&task, &s, L).ok_or("a step")?;
+    assert!(rt; left.contains(3) && left.contains(4) && !left.contains(2));
+    assert!(rt; advance(&task, &s, A).is_none());
+    Ok(())
+}
+
+#[test]
 fn one_step_serves_one_observation(rt: HostRuntime) {
     let plan = [A, B, L];
     for (observations, want) in [([A, L], true), ([A, A], false), ([L, A], false)] {

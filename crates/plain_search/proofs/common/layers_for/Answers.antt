@@ -1,6 +1,7 @@
 use Rattle.std.proofs.Common.{◌≡◌, ◌<◌, length}
 use mathlib.Core.Path.{subst}
-use Rattle.strips_model.specs.Reached.{IsReachedFor, MoreThan}
+use Rattle.grd_base.specs.Counts.{MoreThan}
+use Rattle.strips_model.specs.Reached.{IsReachedFor}
 use Rattle.plain_search.proofs.WitnessLemmas.{reached_within}
 use Rattle.plain_search.proofs.common.layers_for.Goals as goal
 

@@ -1,0 +1,8 @@
+mod ReachLemmas
+mod TableLemmas
+mod PlaceLemmas
+mod OneFault
+mod CutLemmas
+mod FamilyLemmas
+mod EntryLemmas
+mod BoundLemmas

@@ -1,0 +1,5 @@
+pub mod Rows
+pub mod Tables
+pub mod Faults
+pub mod Found
+pub mod Seen

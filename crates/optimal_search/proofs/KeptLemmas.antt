@@ -1,0 +1,252 @@
+-- Numbered states with bounds: which rows they make, and how these grow.
+use Rattle.std.proofs.Common.{◌≡◌, ◌≢◌, ◌⊎◌, ℕ, zero, suc, set, ◌+◌, ◌-◌, ◌<◌, ◌≤◌, take, List, [], ◌∷◌, ◌++◌, length, Option, Some, None, refl, sym, ◌∙◌, ap, subst, inl, inr, arith}
+use Rattle.std.specs.Prelude.{slice_get, slice_index_or, All, Any, Contains}
+use Rattle.std.proofs.lemmas.Option.{slice_get_within}
+use Rattle.std.proofs.lemmas.List.{length-append, length-set}
+use Rattle.std.proofs.lemmas.List.Elements.{All-nil, All-push, Contains-append_left}
+use Rattle.std.proofs.lemmas.List.Quantifiers.{Any-push}
+use Rattle.std.proofs.lemmas.Bool.{cases_eq, cases_lt}
+use Rattle.grd_base.specs.declared.limits.Bound.TheVariants.{Steps, Never}
+use Rattle.grd_base.specs.Bits.{members}
+use Rattle.optimal_search.specs.Space.{IsOver}
+use Rattle.optimal_search.proofs.OracleLaws.{at_most_trans}
+use Rattle.std.proofs.Math.Seq.{take-append_seam}
+use Rattle.grd_base.specs.declared.bits.Bits.{Bits}
+use Rattle.grd_base.specs.declared.limits.Bound.{Bound}
+use Rattle.strips_model.specs.Values.{PlainTask}
+use Rattle.search_core.specs.declared.rows.KeptRow.{KeptRow}
+use Rattle.cost_certificate.specs.Rows.{PlainRow}
+use Rattle.cost_certificate.specs.Tables.{IsAtMost}
+use Rattle.optimal_search.specs.Rows.{row_by_steps, row_of, rows_kept}
+use Rattle.optimal_search.specs.Kept.{IsNumbered, AreNumbered, IsRaised, IsRaisedAt, KeepsRows}
+use Rattle.state_store.specs.Store.{IsNumbered as IsPlaced}
+
+first_has : {X : Type 0} (x : X) (xs : List X) → Contains (x ∷ xs) x
+first_has x xs = (zero, omega arith, refl)
+
+later_has : {X : Type 0} (x : X) (xs : List X) (y : X) → Contains xs y → Contains (x ∷ xs) y
+later_has x xs y there = (suc there.0, omega (arith, there.1), there.2)
+
+first_or_later : {X : Type 0} (x : X) (xs : List X) (y : X) → Contains (x ∷ xs) y → (x ≡ y) ⊎ Contains xs y
+first_or_later x xs y (zero, within, is) = inl is
+first_or_later x xs y (suc k, within, is) = inr (k, omega arith, is)
+
+-- what is pushed and taken off again
+pub taken_off : {X : Type 0} (xs pushed popped : List X) (x : X) (n : ℕ) → pushed ≡ xs ++ x ∷ [] → popped ≡ take (n - 1) pushed → n ≡ length pushed → popped ≡ xs
+taken_off xs pushed popped x n push pop long =
+    let count : n - 1 ≡ length xs = omega (arith, long, ap length push, length-append xs (x ∷ [])) in
+    pop ∙ ap (λ k. take k pushed) count ∙ ap (take (length xs)) push ∙ take-append_seam xs (x ∷ [])
+
+-- a state that has a place already is not added, so the bound that was pushed is taken off again
+pub old_number : {W : ℕ} (old states : List (Bits W)) (bounds new : List (Option Bound)) (s : Bits W) (n : ℕ) → length bounds ≡ length old → IsPlaced old states s n
+    → n < length bounds → new ≡ bounds → IsNumbered old bounds states new s
+old_number old states bounds new s n matched (inl placed) low same = inl (placed.1, same)
+old_number old states bounds new s n matched (inr added) low same = absurd (omega (arith, matched, added.2))
+
+-- a new one is added, and the bound stays
+pub new_number : {W : ℕ} (old states : List (Bits W)) (bounds new : List (Option Bound)) (s : Bits W) (n : ℕ) → length bounds ≡ length old → IsPlaced old states s n
+    → slice_get states n ≡ Some s → length bounds ≤ n → new ≡ bounds ++ None ∷ [] → IsNumbered old bounds states new s
+new_number old states bounds new s n matched (inl placed) at high same = absurd (omega (arith, matched, slice_get_within old n s (ap (λ xs. slice_get xs n) (sym placed.1) ∙ at)))
+new_number old states bounds new s n matched (inr added) at high same = inr (added.1, same)
+
+module _ {W : ℕ} (t : PlainTask) where
+  -- a state without a bound makes no row
+  pub rows_push : (states : List (Bits W)) (bounds : List (Option Bound)) (s : Bits W) → length bounds ≡ length states
+      → rows_kept t (states ++ s ∷ []) (bounds ++ None ∷ []) ≡ rows_kept t states bounds
+  rows_push [] [] s matched = refl
+  rows_push [] (bound ∷ bounds) s matched = absurd (omega (arith, matched))
+  rows_push (x ∷ states) [] s matched = absurd (omega (arith, matched))
+  rows_push (x ∷ states) (None ∷ bounds) s matched = rows_push states bounds s (omega (arith, matched))
+  rows_push (x ∷ states) (Some bound ∷ bounds) s matched = ap (λ rows. row_by_steps t x bound ∷ rows) (rows_push states bounds s (omega (arith, matched)))
+
+  -- a state with a bound makes a row
+  pub makes_row : (states : List (Bits W)) (bounds : List (Option Bound)) (n : ℕ) (s : Bits W) (bound : Bound) → slice_get states n ≡ Some s → slice_get bounds n ≡ Some (Some bound)
+      → Contains (rows_kept t states bounds) (row_by_steps t s bound)
+  makes_row [] bounds n s bound at is = cc
+  makes_row (x ∷ states) [] n s bound at is = cc
+  makes_row (x ∷ states) (None ∷ bounds) zero s bound at is = cc
+  makes_row (x ∷ states) (None ∷ bounds) (suc n) s bound at is = makes_row states bounds n s bound at is
+  makes_row (x ∷ states) (Some b ∷ bounds) zero s bound at is =
+      let same : x ≡ s = cc in
+      let bounds_same : b ≡ bound = cc in
+      subst (λ row. Contains (row_by_steps t x b ∷ rows_kept t states bounds) row) (ap (λ y. row_by_steps t y b) same ∙ ap (λ c. row_by_steps t s c) bounds_same) (first_has _ _)
+  makes_row (x ∷ states) (Some b ∷ bounds) (suc n) s bound at is = later_has _ _ _ (makes_row states bounds n s bound at is)
+
+  -- a row is that of a state with a bound
+  pub record IsMade (states : List (Bits W)) (bounds : List (Option Bound)) (row : PlainRow) : Type 0 where
+    pub place : ℕ
+    pub state : Bits W
+    pub bound : Bound
+    pub at : slice_get states place ≡ Some state
+    pub has : slice_get bounds place ≡ Some (Some bound)
+    pub is : row_by_steps t state bound ≡ row
+
+  made_later : (x : Bits W) (b : Option Bound) (states : List (Bits W)) (bounds : List (Option Bound)) (row : PlainRow) → IsMade states bounds row → IsMade (x ∷ states) (b ∷ bounds) row
+  made_later x b states bounds row made = record { place = suc made.place; state = made.state; bound = made.bound; at = made.at; has = made.has; is = made.is }
+
+  pub row_made : (states : List (Bits W)) (bounds : List (Option Bound)) (row : PlainRow) → Contains (rows_kept t states bounds) row → IsMade states bounds row
+  row_made [] bounds row there = absurd (omega (arith, there.1))
+  row_made (x ∷ states) [] row there = absurd (omega (arith, there.1))
+  row_made (x ∷ states) (None ∷ bounds) row there = made_later x None states bounds row (row_made states bounds row there)
+  row_made (x ∷ states) (Some b ∷ bounds) row there =
+      elim (first_or_later _ _ _ there) as (λ _. IsMade (x ∷ states) (Some b ∷ bounds) row) [
+        | inl here ↦ record { place = 0; state = x; bound = b; at = refl; has = refl; is = here }
+        | inr later ↦ made_later x (Some b) states bounds row (row_made states bounds row later)
+      ]
+
+  -- raised bounds make rows that keep the old ones and those that were added
+  pub raised_keeps : {M : Type 0} (states : List (Bits W)) (old new : List (Option Bound)) (rows : List (KeptRow (Bits W) M)) → IsRaised states old new rows
+      → KeepsRows t (rows_kept t states old) (rows_kept t states new) rows
+  raised_keeps {M} states old new rows raised = record { from = from; old_held = old_held; held = held }
+    where
+      from : (row : PlainRow) → Contains (rows_kept t states new) row → Contains (rows_kept t states old) row ⊎ Any (λ kept. row_of t kept ≡ row) rows
+      from row there =
+          let made = row_made states new row there in
+          elim (raised.from made.place made.state made.bound made.at made.has) as (λ _. Contains (rows_kept t states old) row ⊎ Any (λ kept. row_of t kept ≡ row) rows) [
+            | inl before ↦ inl (subst (Contains (rows_kept t states old)) made.is (makes_row states old made.place made.state made.bound made.at before))
+            | inr added ↦ inr (any_row made.state made.bound row made.is added)
+          ]
+        where
+          any_row : (s : Bits W) (b : Bound) (row : PlainRow) → row_by_steps t s b ≡ row → Any (λ kept. (kept.state ≡ s) × (kept.bound ≡ b)) rows → Any (λ kept. row_of t kept ≡ row) rows
+          any_row s b row is (k, kept, within, at, (same, equal)) = (k, kept, within, at, ap (λ x. row_by_steps t x kept.bound) same ∙ ap (λ c. row_by_steps t s c) equal ∙ is)
+
+      old_held : (row : PlainRow) → Contains (rows_kept t states old) row → (higher : PlainRow) × Contains (rows_kept t states new) higher × (higher.state ≡ row.state) × IsAtMost row.bound higher.bound
+      old_held row there =
+          let made = row_made states old row there in
+          let up = raised.risen made.place made.bound made.has in
+          (row_by_steps t made.state up.0, makes_row states new made.place made.state up.0 made.at up.1, ap (λ (r : PlainRow). r.state) made.is, subst (λ (r : PlainRow). IsAtMost r.bound up.0) made.is up.2)
+
+      held : All (λ kept. (higher : PlainRow) × Contains (rows_kept t states new) higher × (higher.state ≡ (row_of t kept).state) × IsAtMost kept.bound higher.bound) rows
+      held k d within =
+          let up = raised.held k d within in
+          (row_by_steps t _ up.1, makes_row states new up.0 _ up.1 up.2 up.3, refl, up.4)
+
+any_left : {X : Type 0} (P : X → Type 0) (xs ys : List X) → Any P xs → Any P (xs ++ ys)
+any_left P xs ys (k, x, within, at, holds) =
+    let there = Contains-append_left xs ys x (k, within, at) in
+    (there.0, x, there.1, there.2, holds)
+
+at_most_same : (b : Bound) → IsAtMost b b
+at_most_same (Steps n) = omega arith
+at_most_same Never = tt
+
+pub at_most_other : (a b : Bound) → (IsAtMost a b → ⊥) → IsAtMost b a
+at_most_other (Steps n) (Steps r) h = elim (cases_lt r n) [ inl below ↦ omega arith | inr from ↦ absurd (h from) ]
+at_most_other (Steps n) Never h = absurd (h tt)
+at_most_other Never (Steps r) h = tt
+at_most_other Never Never h = tt
+
+-- one element set anew
+set_here : {X : Type 0} (xs : List X) (n : ℕ) (x : X) → n < length xs → slice_get (set xs n x) n ≡ Some x
+set_here [] n x within = absurd (omega arith)
+set_here (y ∷ xs) zero x within = refl
+set_here (y ∷ xs) (suc n) x within = set_here xs n x (omega arith)
+
+set_other : {X : Type 0} (xs : List X) (n k : ℕ) (x : X) → k ≢ n → slice_get (set xs n x) k ≡ slice_get xs k
+set_other [] n k x differ = refl
+set_other (y ∷ xs) zero zero x differ = absurd (differ refl)
+set_other (y ∷ xs) zero (suc k) x differ = refl
+set_other (y ∷ xs) (suc n) zero x differ = refl
+set_other (y ∷ xs) (suc n) (suc k) x differ = set_other xs n k x (λ e. differ (ap suc e))
+
+pub some_bound : (known other : Bound) → Some (Some known) ≡ Some (Some other) → known ≡ other
+some_bound known other e = cc
+
+-- a bound that was not there, or not high enough, is set anew
+pub set_raised : (old : List (Option Bound)) (n : ℕ) (bound : Bound) → n < length old → ((known : Bound) → slice_get old n ≡ Some (Some known) → IsAtMost known bound)
+    → IsRaisedAt old (set old n (Some bound)) n bound
+set_raised old n bound within lower = record {
+  matched = length-set old n (Some bound);
+  others = λ k differ. set_other old n k (Some bound) differ;
+  higher = bound;
+  is = set_here old n (Some bound) within;
+  enough = at_most_same bound;
+  from = inl refl;
+  risen = lower;
+}
+
+-- one that is high enough stays
+pub stays_raised : (old : List (Option Bound)) (n : ℕ) (known bound : Bound) → slice_get old n ≡ Some (Some known) → IsAtMost bound known → IsRaisedAt old old n bound
+stays_raised old n known bound at enough = record {
+  matched = refl;
+  others = λ k differ. refl;
+  higher = known;
+  is = at;
+  enough = enough;
+  from = inr at;
+  risen = λ other there. subst (λ b. IsAtMost b known) (some_bound known other (sym at ∙ there)) (at_most_same known);
+}
+
+module _ {W : ℕ} {M : Type 0} (states : List (Bits W)) (old : List (Option Bound)) where
+  pub none_raised : IsRaised {M = M} states old old []
+  none_raised = record {
+    matched = refl;
+    from = λ n s bound at is. inl is;
+    risen = λ n bound is. (bound, is, at_most_same bound);
+    held = All-nil _;
+  }
+
+  -- one more row's bound
+  pub raised_more : (new newer : List (Option Bound)) (rows : List (KeptRow (Bits W) M)) (row : KeptRow (Bits W) M) (n : ℕ) → slice_get states n ≡ Some row.state
+      → IsRaised states old new rows → IsRaisedAt new newer n row.bound → IsRaised states old newer (rows ++ row ∷ [])
+  raised_more new newer rows row n at raised one = record {
+    matched = one.matched ∙ raised.matched;
+    from = from;
+    risen = risen;
+    held = All-push Held rows row (λ k d within. lift (slice_index_or rows k d) (raised.held k d within)) (n, one.higher, at, one.is, one.enough);
+  }
+    where
+      Held : KeptRow (Bits W) M → Type 0
+      Held r = (n : ℕ) × (higher : Bound) × (slice_get states n ≡ Some r.state) × (slice_get newer n ≡ Some (Some higher)) × IsAtMost r.bound higher
+
+      goes : (k : ℕ) (bound : Bound) → slice_get new k ≡ Some (Some bound) → (higher : Bound) × (slice_get newer k ≡ Some (Some higher)) × IsAtMost bound higher
+      goes k bound is = elim (cases_eq k n) as (λ _. (higher : Bound) × (slice_get newer k ≡ Some (Some higher)) × IsAtMost bound higher) [
+        | inl same ↦ (one.higher, ap (slice_get newer) same ∙ one.is, one.risen bound (ap (slice_get new) (sym same) ∙ is))
+        | inr differ ↦ (bound, one.others k differ ∙ is, at_most_same bound)
+      ]
+
+      lift : (r : KeptRow (Bits W) M) → ((m : ℕ) × (higher : Bound) × (slice_get states m ≡ Some r.state) × (slice_get new m ≡ Some (Some higher)) × IsAtMost r.bound higher) → Held r
+      lift r (m, higher, there, is, enough) = let up = goes m higher is in (m, up.0, there, up.1, at_most_trans r.bound higher up.0 enough up.2)
+
+      risen : (k : ℕ) (bound : Bound) → slice_get old k ≡ Some (Some bound) → (higher : Bound) × (slice_get newer k ≡ Some (Some higher)) × IsAtMost bound higher
+      risen k bound is =
+          let first = raised.risen k bound is in
+          let up = goes k first.0 first.1 in
+          (up.0, up.1, at_most_trans bound first.0 up.0 first.2 up.2)
+
+      more : (s : Bits W) (bound : Bound) → Any (λ r. (r.state ≡ s) × (r.bound ≡ bound)) rows → Any (λ r. (r.state ≡ s) × (r.bound ≡ bound)) (rows ++ row ∷ [])
+      more s bound any = any_left (λ r. (r.state ≡ s) × (r.bound ≡ bound)) rows (row ∷ []) any
+
+      from : (k : ℕ) (s : Bits W) (bound : Bound) → slice_get states k ≡ Some s → slice_get newer k ≡ Some (Some bound)
+          → (slice_get old k ≡ Some (Some bound)) ⊎ Any (λ r. (r.state ≡ s) × (r.bound ≡ bound)) (rows ++ row ∷ [])
+      from k s bound there is = elim (cases_eq k n) as (λ _. (slice_get old k ≡ Some (Some bound)) ⊎ Any (λ r. (r.state ≡ s) × (r.bound ≡ bound)) (rows ++ row ∷ [])) [
+        | inl same ↦
+            let bounds_same : one.higher ≡ bound = some_bound one.higher bound (sym one.is ∙ ap (slice_get newer) (sym same) ∙ is) in
+            let states_same : row.state ≡ s = some_state row.state s (sym at ∙ ap (slice_get states) (sym same) ∙ there) in
+            elim one.from as (λ _. (slice_get old k ≡ Some (Some bound)) ⊎ Any (λ r. (r.state ≡ s) × (r.bound ≡ bound)) (rows ++ row ∷ [])) [
+              | inl now ↦ inr (Any-push (λ r. (r.state ≡ s) × (r.bound ≡ bound)) rows row (states_same, sym now ∙ bounds_same))
+              | inr before ↦ earlier k s bound there (ap (slice_get new) same ∙ before ∙ ap (λ b. Some (Some b)) bounds_same)
+            ]
+        | inr differ ↦ earlier k s bound there (sym (one.others k differ) ∙ is)
+      ]
+        where
+          some_state : (x y : Bits W) → Some x ≡ Some y → x ≡ y
+          some_state x y e = cc
+
+          earlier : (k : ℕ) (s : Bits W) (bound : Bound) → slice_get states k ≡ Some s → slice_get new k ≡ Some (Some bound)
+              → (slice_get old k ≡ Some (Some bound)) ⊎ Any (λ r. (r.state ≡ s) × (r.bound ≡ bound)) (rows ++ row ∷ [])
+          earlier k s bound there is = elim (raised.from k s bound there is) as (λ _. (slice_get old k ≡ Some (Some bound)) ⊎ Any (λ r. (r.state ≡ s) × (r.bound ≡ bound)) (rows ++ row ∷ [])) [
+            | inl before ↦ inl before
+            | inr any ↦ inr (more s bound any)
+          ]
+
+-- what is known after some of the rows have numbers
+pub record AreTaken {W : ℕ} {M : Type 0} (old : List (Bits W)) (old_bounds : List (Option Bound)) (states : List (Bits W)) (bounds : List (Option Bound)) (numbers : List ℕ) (rows : List (KeptRow (Bits W) M)) : Type 0 where
+  pub matched : length bounds ≡ length states
+  pub same : (t : PlainTask) → rows_kept t states bounds ≡ rows_kept t old old_bounds
+  pub over : (t : PlainTask) → All (λ s. IsOver t (members s)) old → All (λ row. IsOver t (members row.state)) rows → All (λ s. IsOver t (members s)) states
+  pub places : AreNumbered states numbers rows
+
+-- what the first of two sets of rows is known to be
+pub not_there : (old : List (Option Bound)) (n : ℕ) (known : Bound) → slice_get old n ≡ Some None → slice_get old n ≡ Some (Some known) → ⊥
+not_there old n known none some = cc

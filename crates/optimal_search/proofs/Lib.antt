@@ -1,0 +1,11 @@
+mod StepLaws
+pub mod SpaceLaws
+mod ListLaws
+mod RowLaws
+mod OracleLaws
+mod KeptLaws
+mod AskLaws
+mod KeptLemmas
+mod TakenLemmas
+mod LeastLemmas
+mod CostLaws

@@ -1,0 +1,162 @@
+-- The steps of a task between states that are bit sets.
+use Rattle.std.proofs.Common.{◌≡◌, ℕ, zero, suc, ◌+◌, ◌*◌, ◌<◌, ◌≤◌, Bool, true, false, cond, not, ◌&&◌, ◌||◌, List, [], ◌∷◌, ◌++◌, length, take, get_or, refl, sym, ◌∙◌, ap, subst, inl, inr, arith, Option, Some, None}
+use Rattle.std.specs.Prelude.{Contains, All}
+use Rattle.std.specs.Option.{option_map}
+use Rattle.std.specs.List.{filter_map, cons_option}
+use Rattle.std.proofs.lemmas.List.{append-nil, take_more, take_all}
+use Rattle.std.proofs.lemmas.Bool.{ne_eqb}
+use Rattle.std.proofs.lemmas.Option.{slice_get_within, get_or_from_slice_get}
+use Rattle.std.proofs.lemmas.List.Elements.{All-head, All-tail, All-contains, All-get_or, filter_map-append, Contains-append_right, Contains-append_cases, Contains-push_cases}
+use Rattle.grd_base.specs.declared.bits.Bits.{Bits}
+use Rattle.grd_base.specs.declared.ids.AtomId.{AtomId}
+use Rattle.grd_base.specs.declared.ids.ActionId.{ActionId}
+use Rattle.grd_base.specs.Rising.{has_id}
+use Rattle.grd_base.specs.Bits.{members, bits_of, IsWhole}
+use Rattle.grd_base.proofs.PackedLemmas.{words_wide, words_fit, words_have}
+use Rattle.strips_model.specs.Values.{PlainTask, IsTask, IsActionBelow, GroundAction}
+use Rattle.strips_model.specs.Plans.{State, set_of, step, step_without, effect}
+use Rattle.strips_model.specs.Moves.{allowed_of}
+use Rattle.strips_model.proofs.MoveLemmas.{allowed_good, step_by, step_allowed, IsStepBy}
+use Rattle.optimal_search.specs.Space.{labelled_step, successors_of, IsOver}
+
+-- the one element of a list
+only_element : {Y : Type 0} (w y : Y) → Contains (w ∷ []) y → w ≡ y
+only_element w y there = elim (Contains-push_cases [] w y there) [ inl none ↦ absurd (omega (arith, none.1)) | inr same ↦ same ]
+
+module _ {X Y : Type 0} (f : X → Option Y) where
+  -- what is in a list is in it behind one more element or none
+  later : (o : Option Y) (ys : List Y) (y : Y) → Contains ys y → Contains (cons_option o ys) y
+  later None ys y there = there
+  later (Some z) ys y there = Contains-append_right (z ∷ []) ys y there
+
+  -- what the element at a place gives is in the list
+  given_at : (xs : List X) (k : ℕ) (x : X) (y : Y) → k < length xs → get_or xs k x ≡ x → f x ≡ Some y → Contains (filter_map f xs) y
+  given_at [] k x y within at gives = absurd (omega arith)
+  given_at (z ∷ xs) zero x y within at gives =
+      let first : Contains (y ∷ filter_map f xs) y = (0, omega arith, refl) in
+      let P : Option Y → Type 0 = λ o. Contains (cons_option o (filter_map f xs)) y in
+      subst P (sym (ap f at ∙ gives)) first
+  given_at (z ∷ xs) (suc k) x y within at gives = later (f z) (filter_map f xs) y (given_at xs k x y (omega arith) at gives)
+
+  -- what an element gives is in the list
+  pub filter_map_has : (xs : List X) (x : X) (y : Y) → Contains xs x → f x ≡ Some y → Contains (filter_map f xs) y
+  filter_map_has xs x y there gives = given_at xs there.0 x y there.1 there.2 gives
+
+  -- what is in the list is given by an element
+  pub filter_map_from : (xs : List X) (y : Y) → Contains (filter_map f xs) y → (x : X) × Contains xs x × (f x ≡ Some y)
+  filter_map_from [] y there = absurd (omega (arith, there.1))
+  filter_map_from (z ∷ xs) y there = by (f z) refl there (λ among. further (filter_map_from xs y among))
+    where
+      further : ((x : X) × Contains xs x × (f x ≡ Some y)) → (x : X) × Contains (z ∷ xs) x × (f x ≡ Some y)
+      further (x, among, gives) = (x, Contains-append_right (z ∷ []) xs x among, gives)
+
+      by : (o : Option Y) → f z ≡ o → Contains (cons_option o (filter_map f xs)) y → (Contains (filter_map f xs) y → (x : X) × Contains (z ∷ xs) x × (f x ≡ Some y))
+          → (x : X) × Contains (z ∷ xs) x × (f x ≡ Some y)
+      by None gives among rest = rest among
+      by (Some w) gives among rest = elim (Contains-append_cases (w ∷ []) (filter_map f xs) y among) [
+        | inl first ↦ (z, (0, omega arith, refl), gives ∙ ap Some (only_element w y first))
+        | inr behind ↦ rest behind
+      ]
+
+module _ {X Y : Type 0} (f : X → Option Y) (xs : List X) (i : ℕ) (d : X) (within : i < length xs) where
+  -- what one more element gives stands behind what the earlier ones give
+  more_parts : filter_map f (take (i + 1) xs) ≡ filter_map f (take i xs) ++ cons_option (f (get_or xs i d)) []
+  more_parts = ap (filter_map f) (take_more xs i d within) ∙ filter_map-append f (take i xs) (get_or xs i d ∷ [])
+
+  -- where the next element gives a value, that is put behind the others
+  pub filter_map_more_some : (ys zs : List Y) (y : Y) → ys ≡ filter_map f (take i xs) → f (get_or xs i d) ≡ Some y → zs ≡ ys ++ y ∷ [] → zs ≡ filter_map f (take (i + 1) xs)
+  filter_map_more_some ys zs y before gives after = after ∙ ap (λ l. l ++ y ∷ []) before ∙ sym (more_parts ∙ ap (λ o. filter_map f (take i xs) ++ cons_option o []) gives)
+
+  -- where the next element gives none, nothing is put behind the others
+  pub filter_map_more_none : (ys : List Y) → ys ≡ filter_map f (take i xs) → f (get_or xs i d) ≡ None → ys ≡ filter_map f (take (i + 1) xs)
+  filter_map_more_none ys before gives = before ∙ sym (more_parts ∙ ap (λ o. filter_map f (take i xs) ++ cons_option o []) gives ∙ append-nil (filter_map f (take i xs)))
+
+-- no number from the bound on is in a set of atoms below it
+set_over : (bound : ℕ) (xs : List AtomId) (n : ℕ) → All (λ a. a.0 < bound) xs → bound ≤ n → set_of xs n ≡ false
+set_over bound [] n below past = refl
+set_over bound (x ∷ xs) n below past =
+    let first : x.0 < bound = All-head (λ a. a.0 < bound) x xs below in
+    let rest : set_of xs n ≡ false = set_over bound xs n (All-tail (λ a. a.0 < bound) x xs below) past in
+    ap (λ b. b || set_of xs n) (ne_eqb x.0 n (λ same. absurd (omega (arith, first)))) ∙ rest
+
+-- after an action over the atoms of the task there are no other atoms
+effect_over : (t : PlainTask) (act : GroundAction) (s : State) → IsActionBelow t.atoms act → IsOver t s → IsOver t (effect act s)
+effect_over t act s below over n past = none (set_of act.del n) (s n) (set_of act.add n) (over n past) (set_over t.atoms act.add n below.add.below past)
+  where
+    none : (deleted before added : Bool) → before ≡ false → added ≡ false → ((not deleted && before) || added) ≡ false
+    none true before added out absent = absent
+    none false before added out absent = ap (λ b. b || added) out ∙ absent
+
+-- a step keeps the states of the task
+pub step_over : (t : PlainTask) (removed : List ActionId) (s u : State) (a : ActionId) → IsTask t → IsOver t s → step_without t removed s a ≡ Some u → IsOver t u
+step_over t removed s u a is over leads =
+    let by : IsStepBy t removed s a u = step_by t removed s a u leads in
+    let below : IsActionBelow t.atoms by.action =
+    subst (IsActionBelow t.atoms) (get_or_from_slice_get t.actions a.0 by.action by.action by.at)
+    (All-get_or (IsActionBelow t.atoms) t.actions a.0 by.action (slice_get_within t.actions a.0 by.action by.at) is.actions) in
+    let P : State → Type 0 = λ v. IsOver t v in
+    subst P (sym by.leads) (effect_over t by.action s below over)
+
+-- each allowed action is one of the task
+pub allowed_within : (t : PlainTask) (removed allowed : List ActionId) (i : ℕ) (d : ActionId) → allowed ≡ allowed_of t removed → i < length allowed → (get_or allowed i d).0 < length t.actions
+allowed_within t removed allowed i d same within =
+    let P : ActionId → Type 0 = λ a. (a.0 < length t.actions) × (has_id removed a ≡ false) in
+    (subst (All P) (sym same) (allowed_good t removed) i d within).0
+
+-- the step of an allowed action
+pub allowed_step : (t : PlainTask) (removed : List ActionId) (s : State) (a : ActionId) → Contains (allowed_of t removed) a → step_without t removed s a ≡ step t s a
+unfolding step_without
+allowed_step t removed s a allowed =
+    let kept : has_id removed a ≡ false = (All-contains (λ b. (b.0 < length t.actions) × (has_id removed b ≡ false)) (allowed_of t removed) a (allowed_good t removed) allowed).1 in
+    ap (λ b. cond b None (step t s a)) kept
+
+-- a step with its label is a step
+pub labelled_from : {W : ℕ} (t : PlainTask) (s : Bits W) (a : ActionId) (x : ActionId × Bits W) → labelled_step t s a ≡ Some x → (u : State) × (step t (members s) a ≡ Some u) × (x ≡ (a, bits_of u))
+labelled_from {W} t s a x labelled = by (step t (members s) a) refl labelled
+  where
+    by : (o : Option State) → step t (members s) a ≡ o → option_map (λ u. (a, bits_of u)) o ≡ Some x → (u : State) × (step t (members s) a ≡ Some u) × (x ≡ (a, bits_of u))
+    by None leads same = cc
+    by (Some u) leads same = (u, leads, cc)
+
+-- what the program finds of a step is the step with its label
+pub labelled_some : {W : ℕ} (t : PlainTask) (s next : Bits W) (a : ActionId) → Some (members next) ≡ step t (members s) a → bits_of (members next) ≡ next → labelled_step t s a ≡ Some (a, next)
+labelled_some t s next a leads again = ap (option_map (λ u. (a, bits_of u))) (sym leads) ∙ ap (λ x. Some (a, x)) again
+
+-- where the program finds no step, there is none
+pub labelled_none : {W : ℕ} (t : PlainTask) (s : Bits W) (a : ActionId) → None ≡ step t (members s) a → labelled_step t s a ≡ None
+labelled_none t s a leads = ap (option_map (λ u. (a, bits_of u))) (sym leads)
+
+-- the bit set that is made of a state is whole
+pub packed_whole : {W : ℕ} (u : State) → IsWhole (bits_of {W = W} u)
+unfolding bits_of
+packed_whole {W} u = record { wide = words_wide u 0 W; fits = words_fit u 0 W }
+
+-- the bit set that is made of a state over the atoms of the task has its members
+pub packed_members : (W : ℕ) (t : PlainTask) (u : State) → t.atoms ≤ 64 * W → IsOver t u → members (bits_of {W = W} u) ≡ u
+unfolding members bits_of
+packed_members W t u wide over = words_have u W (λ n past. over n (omega arith))
+
+-- the steps by all the allowed actions are the successors
+pub all_steps : {W : ℕ} (t u : PlainTask) (removed allowed : List ActionId) (s : Bits W) (i : ℕ) (steps : List (ActionId × Bits W))
+    → steps ≡ filter_map (labelled_step t s) (take i allowed) → length allowed ≤ i → allowed ≡ allowed_of u removed → t ≡ u → steps ≡ successors_of u removed s
+unfolding successors_of
+all_steps t u removed allowed s i steps so_far past are same =
+    so_far ∙ ap (filter_map (labelled_step t s)) (take_all i allowed past ∙ are) ∙ ap (λ v. filter_map (labelled_step v s) (allowed_of u removed)) same
+
+-- a successor of a state comes of a step without the removed actions
+pub successor_from : {W : ℕ} (t : PlainTask) (removed : List ActionId) (s : Bits W) (x : ActionId × Bits W) → Contains (successors_of t removed s) x
+    → (u : State) × (step_without t removed (members s) x.0 ≡ Some u) × (x.1 ≡ bits_of u)
+unfolding successors_of
+successor_from {W} t removed s x there =
+    let from = filter_map_from (labelled_step t s) (allowed_of t removed) x there in
+    let by = labelled_from t s from.0 x from.2 in
+    let same : x.0 ≡ from.0 = ap (λ (y : ActionId × Bits W). y.0) by.2 in
+    (by.0, ap (step_without t removed (members s)) same ∙ allowed_step t removed (members s) from.0 from.1 ∙ by.1, ap (λ (y : ActionId × Bits W). y.1) by.2)
+
+-- each step without the removed actions leads to a successor
+pub successor_has : {W : ℕ} (t : PlainTask) (removed : List ActionId) (s : Bits W) (a : ActionId) (u : State) → step_without t removed (members s) a ≡ Some u
+    → Contains (successors_of t removed s) (a, bits_of u)
+unfolding successors_of
+successor_has t removed s a u leads =
+    let allowed : Contains (allowed_of t removed) a = step_allowed t removed (members s) a u leads in
+    filter_map_has (labelled_step t s) (allowed_of t removed) a (a, bits_of u) allowed (ap (option_map (λ v. (a, bits_of v))) (sym (allowed_step t removed (members s) a allowed) ∙ leads))

@@ -1,0 +1,8 @@
+pub mod Space
+pub mod Floors
+pub mod Reach
+pub mod Least
+pub mod Rows
+pub mod Costs
+pub mod Oracles
+pub mod Kept

@@ -1,0 +1,137 @@
+ghost use Rattle.std.specs.Prelude.{◌≡◌, ℕ, ◌*◌, ◌<◌, ◌≤◌, [], length, All, Some, IfOk, slice_get};
+ghost use Rattle.grd_base.specs.declared.limits.Bound.TheVariants.{Steps};
+ghost use Rattle.grd_base.specs.Bits.{members};
+ghost use Rattle.grd_base.specs.Counts.{MoreThan};
+ghost use Rattle.strips_model.specs.Values.{IsTask};
+ghost use Rattle.strips_model.specs.Plans.{start_of, goal_holds};
+ghost use Rattle.strips_model.specs.Reached.{IsReachedFor};
+ghost use Rattle.cost_certificate.specs.Found.{PlainCost};
+ghost use Rattle.optimal_search.specs.Costs.{IsRightCost};
+ghost use Rattle.optimal_search.specs.Space.{successors_of};
+ghost use Rattle.optimal_search.specs.Least.{IsLeast};
+
+use crate::faults::GoalSearchFault;
+use crate::least::{Least, find_least};
+use crate::rows::table_of;
+use crate::space::{TaskSpace, ZeroFloor};
+use cost_certificate::CostFound;
+use grd_base::{ActionSet, Bits, GoalId, Limits, OutOfMemory, by_width, whole};
+use search_core::SearchFault;
+use std::alloc::Global;
+use strips_model::{Task, fits, start};
+
+/// What holds of every task holds of this one.
+fn known_task(task: &Task)
+    ensures { IsTask task.now }
+{
+    let _atoms = task.atoms;
+}
+
+/// The cost that was found, with the path as a plan and the rows as a table.
+fn shown_cost<const W: usize>(
+    alloc: Global,
+    task: &Task,
+    goal: GoalId,
+    first: &Bits<W>,
+    states: u32,
+    found: Least<Bits<W>, ()>,
+) -> Result<CostFound, OutOfMemory>
+    requires width { W ≤ 64 }
+    requires atoms { task.now.atoms ≤ 64 * W }
+    requires states { states ≤ 1000000 }
+    requires start { members first.now ≡ start_of task.now }
+    requires least { IsLeast (successors_of task.now []) (λ s. goal_holds task.now goal (members s)) (λ _. Some 0)
+        (λ _ _ bound. bound ≡ Steps 0) first.now states found }
+    ensures right { IfOk result (IsRightCost task.now goal states) }
+    ensures in_range { IfOk result (λ found. All (λ a. a.0 < length task.now.actions) found.plan) }
+{
+    known_task(task);
+    whole(first);
+    match found {
+        Least::Path(plan, rows) => {
+            let table = table_of(alloc, task, rows.as_slice())?;
+            Ok(CostFound {
+                cost: Some(plan.len() as u32),
+                plan,
+                table,
+            })
+        }
+        Least::Nowhere(rows) => {
+            let table = table_of(alloc, task, rows.as_slice())?;
+            Ok(CostFound {
+                cost: None,
+                plan: Vec::new(alloc),
+                table,
+            })
+        }
+    }
+}
+
+/// The cost of a goal, with an optimal plan and a table.
+fn cost_of<const W: usize>(
+    alloc: Global,
+    task: &Task,
+    goal: GoalId,
+    removed: &ActionSet,
+    states: u32,
+) -> Result<CostFound, GoalSearchFault>
+    requires width { W ≤ 64 }
+    requires atoms { task.now.atoms ≤ 64 * W }
+    requires goal { goal.0 < length task.now.goals }
+    requires removed { removed.now ≡ [] }
+    requires states { states ≤ 1000000 }
+    ensures right { IfOk result (IsRightCost task.now goal states) }
+    ensures in_range { IfOk result (λ found. All (λ a. a.0 < length task.now.actions) found.plan) }
+    ensures many { (g : GoalId) → result ≡ Err (GoalSearchFault.TooManyStates g)
+        → (g.0 < length task.now.goals) × MoreThan states (IsReachedFor task.now g) }
+{
+    let space = TaskSpace::<W>::new(alloc, task, goal, removed)?;
+    known_task(task);
+    let first = start(task);
+    whole(&first);
+    match find_least(alloc, &space, &ZeroFloor, first, states) {
+        Ok(found) => Ok(shown_cost(alloc, task, goal, &first, states, found)?),
+        Err(SearchFault::TooManyStates) => Err(GoalSearchFault::TooManyStates(goal)),
+        Err(SearchFault::OutOfMemory) => Err(GoalSearchFault::OutOfMemory),
+    }
+}
+
+/// What is found of each goal, by states of W words.
+fn all_costs<const W: usize>(
+    alloc: Global,
+    task: &Task,
+    states: u32,
+) -> Result<Vec<CostFound>, GoalSearchFault>
+    requires width { W ≤ 64 }
+    requires atoms { task.now.atoms ≤ 64 * W }
+    requires states { states ≤ 1000000 }
+    ensures each_goal { IfOk result (λ found. length found.items ≡ length task.now.goals) }
+    ensures right { IfOk result (λ found. (k : ℕ) (x : PlainCost) → slice_get found.items k ≡ Some x
+        → IsRightCost task.now (record { 0 = k }) states x) }
+    ensures in_range { IfOk result
+        (λ found. All (λ x. All (λ a. a.0 < length task.now.actions) x.plan) found.items) }
+    ensures many { (g : GoalId) → result ≡ Err (GoalSearchFault.TooManyStates g)
+        → (g.0 < length task.now.goals) × MoreThan states (IsReachedFor task.now g) }
+{
+    let removed = ActionSet::new(alloc);
+    let mut found = Vec::new(alloc);
+    for i in 0..task.goals.len() {
+        found.push(cost_of::<W>(alloc, task, GoalId(i as u32), &removed, states)?)?;
+    }
+    Ok(found)
+}
+
+/// The cost of each goal, in the order of the goals, with an optimal plan and a table that refutes less.
+pub fn costs(alloc: Global, task: &Task, limits: Limits) -> Result<Vec<CostFound>, GoalSearchFault>
+    requires { (limits.states ≤ 1000000) × (limits.sets ≤ 1000000) }
+    ensures each_goal { IfOk result (λ found. length found.items ≡ length task.now.goals) }
+    ensures right { IfOk result (λ found. (k : ℕ) (x : PlainCost) → slice_get found.items k ≡ Some x
+        → IsRightCost task.now (record { 0 = k }) limits.states x) }
+    ensures in_range { IfOk result
+        (λ found. All (λ x. All (λ a. a.0 < length task.now.actions) x.plan) found.items) }
+    ensures many { (g : GoalId) → result ≡ Err (GoalSearchFault.TooManyStates g)
+        → (g.0 < length task.now.goals) × MoreThan limits.states (IsReachedFor task.now g) }
+{
+    fits(task);
+    by_width!(task.atoms, all_costs(alloc, task, limits.states))
+}

@@ -1,0 +1,17 @@
+// Costs of goals by search, with tables that refute less, and oracles for distances.
+#![tactic(auto)]
+
+mod cost;
+mod faults;
+mod kept;
+mod least;
+mod oracle;
+mod rows;
+mod space;
+
+pub use cost::costs;
+pub use faults::GoalSearchFault;
+pub use oracle::Oracle;
+
+#[cfg(test)]
+mod tests;
