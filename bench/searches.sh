@@ -4,7 +4,8 @@
 # `cost` is asked for a goal that no plan reaches, so that it visits every state once. `wcd` is asked
 # for two goals, one of them as far away as any state is.
 # Each line: the task, its states and actions, then for each command the seconds, and the
-# microseconds for each state, and for `cost` the most memory that it had, in MiB.
+# microseconds for each state, and for `cost` the most memory that it had, in MiB. That number is never
+# below what the measuring Python had itself, some 15 MiB, so it tells of the larger tasks alone.
 set -eu
 top=$(cd "$(dirname "$0")/.." && pwd)
 cd "$top/crates/grd_program"
