@@ -237,3 +237,30 @@ fn blocked_goal_is_refuted_by_all_atoms(rt: HostRuntime) -> Result<(), Fail> {
     rows_refute();
     Ok(())
 }
+
+#[test]
+fn kinds_have_their_words(rt: HostRuntime) -> Result<(), Fail> {
+    for (kind, words) in [
+        (CheckKind::BadLine, "bad line"),
+        (CheckKind::BadNumber, "bad number"),
+        (CheckKind::RowGoalHolds, "row goal holds"),
+        (CheckKind::CutMissesState, "cut misses state"),
+        (CheckKind::CutHoldsGoal, "cut holds goal"),
+        (CheckKind::CutsMeet, "cuts meet"),
+        (CheckKind::TooFewCuts, "too few cuts"),
+        (CheckKind::RowSuccessor, "row successor"),
+        (CheckKind::PlanBroken, "plan broken"),
+        (CheckKind::PlanLength, "plan length"),
+        (CheckKind::LiveSuccessor, "live successor"),
+        (CheckKind::LiveTooDeep, "live too deep"),
+        (CheckKind::TreeBranch, "tree branch"),
+        (CheckKind::TreeLeaf, "tree leaf"),
+        (CheckKind::ClaimMissing, "claim missing"),
+        (CheckKind::Truncated, "truncated"),
+        (CheckKind::Trailing, "trailing"),
+    ] {
+        let printed = format!(in rt.alloc(); "{kind}")?;
+        assert_eq!(rt; printed.as_str(), words);
+    }
+    Ok(())
+}

@@ -15,6 +15,8 @@ mod status;
 #[cfg(test)]
 mod tests;
 mod typed;
+#[cfg(test)]
+mod word_tests;
 mod words;
 
 use grd_io::{HostShelf, HostSink};

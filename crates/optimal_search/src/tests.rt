@@ -2,7 +2,7 @@ ghost use Rattle.std.specs.Prelude.{◌≡◌, ◌<◌, IfOk, length, [], ◌∷
 
 use super::*;
 use cost_certificate::valid_table;
-use grd_base::{ActionId, ActionSet, AtomId, GoalId, Limits};
+use grd_base::{ActionId, ActionSet, AtomId, Bits, GoalId, Limits};
 use search_core::SearchFault;
 use std::alloc::Global;
 use std::test::Fail;
@@ -65,6 +65,24 @@ fn up_to(states: u32) -> Limits
     ensures sets { result.sets ≡ 0 }
 {
     Limits { states, sets: 0 }
+}
+
+// How many steps of fork lead to the oracle's goal from the state in which this atom alone is true, where
+// so many suffice.
+fn steps_from(
+    alloc: Global,
+    oracle: &mut Oracle<1>,
+    atom: u32,
+    most: u32,
+) -> Result<Option<usize>, SearchFault>
+    requires atom { atom < 6 }
+    requires fork { oracle.old.task.atoms ≡ 6 }
+    ensures { oracle.new.task.atoms ≡ 6 }
+{
+    let mut s = Bits::new();
+    s.insert(atom);
+    let path = oracle.within(alloc, &s, most)?;
+    Ok(path.map(|path| path.len()))
 }
 
 const A: ActionId = ActionId(0);
@@ -142,12 +160,43 @@ fn oracle_finds_no_plan_without_a_removed_action(rt: HostRuntime) -> Result<(), 
 }
 
 #[test]
+fn oracle_tells_how_far_a_state_is(rt: HostRuntime) -> Result<(), Fail> {
+    let task = fork(rt.alloc(), 3, 4)?;
+    let none = ActionSet::new(rt.alloc());
+    let mut oracle = Oracle::<1>::new(rt.alloc(), &task, GoalId(0), &none, up_to(5))?;
+    for (atom, most, want) in [
+        (0, 2, None),
+        (0, 2, None),
+        (1, 1, None),
+        (0, 3, Some(3)),
+        (2, 7, Some(1)),
+        (3, 0, Some(0)),
+        (4, u32::MAX, None),
+    ] {
+        let steps = steps_from(rt.alloc(), &mut oracle, atom, most);
+        assert_eq!(rt; steps, Ok(want), "from {atom} in {most}");
+    }
+    let table = oracle.table(rt.alloc())?;
+    assert_eq!(rt; table.rows.len(), 4);
+    assert_eq!(rt;
+        valid_table(rt.alloc(), &task, GoalId(0), &none, &table)?,
+        None
+    );
+    Ok(())
+}
+
+#[test]
 fn oracle_keeps_a_valid_table_behind_a_limit(rt: HostRuntime) -> Result<(), Fail> {
     let task = fork(rt.alloc(), 3, 4)?;
     let none = ActionSet::new(rt.alloc());
     let mut oracle = Oracle::<1>::new(rt.alloc(), &task, GoalId(0), &none, up_to(2))?;
     assert_eq!(rt; oracle.cost(rt.alloc()), Err(SearchFault::TooManyStates));
+    let far = steps_from(rt.alloc(), &mut oracle, 0, 3);
+    assert_eq!(rt; far, Err(SearchFault::TooManyStates));
+    let near = steps_from(rt.alloc(), &mut oracle, 1, 1);
+    assert_eq!(rt; near, Ok(None));
     let table = oracle.table(rt.alloc())?;
+    assert_eq!(rt; table.rows.len(), 2);
     assert_eq!(rt;
         valid_table(rt.alloc(), &task, GoalId(0), &none, &table)?,
         None

@@ -158,6 +158,8 @@ fn a_step_leads_from_a_state_of_a_list(rt: HostRuntime) -> Result<(), Fail> {
     let task = fork(rt.alloc())?;
     let s = state_of::<2>(&[AtomId(2), AtomId(4)]);
     assert!(rt; s.contains(2) && s.contains(4) && !s.contains(0));
+    let atoms = atoms_of(rt.alloc(), &s, 5)?;
+    assert!(rt; atoms.as_slice() == [AtomId(2), AtomId(4)].as_slice());
     let left = advance(&task, &s, L).ok_or("a step")?;
     assert!(rt; left.contains(3) && left.contains(4) && !left.contains(2));
     assert!(rt; advance(&task, &s, A).is_none());
