@@ -1,48 +1,27 @@
 -- The best bound of each state that has a row, and what it tells of successors and rows.
-use Rattle.std.proofs.Common.{◌≡◌, ℕ, zero, suc, ◌+◌, ◌-◌, ◌<◌, Bool, false, cond, List, [], ◌∷◌, ◌++◌, length, get_or, take, refl, sym, ◌∙◌, ap, subst, arith, Some, None}
+use Rattle.std.proofs.Common.{◌≡◌, ℕ, zero, suc, ◌+◌, ◌-◌, ◌<◌, Bool, false, cond, List, [], ◌∷◌, ◌++◌, length, refl, sym, ◌∙◌, ap, subst, arith, Some, None}
 use Rattle.std.specs.Prelude.{◌↔◌, IsTrue, All, Any, Contains}
 use Rattle.std.proofs.lemmas.List.Elements.{All-nil, All-weaker, All-push, All-contains}
 use Rattle.std.proofs.lemmas.List.Quantifiers.{Any-push}
 use Rattle.std.proofs.lemmas.Option.{same_Some}
-use Rattle.std.proofs.Math.Seq.{take-suc}
 use Rattle.indexmap.specs.IndexMap.{insert_entry}
 use Rattle.grd_base.specs.declared.bits.Bits.{Bits}
 use Rattle.grd_base.specs.Bits.{members, IsWhole}
 use Rattle.grd_base.specs.declared.ids.ActionId.{ActionId}
 use Rattle.grd_base.specs.declared.limits.Bound.{Bound}
-use Rattle.grd_base.specs.declared.limits.Bound.TheVariants.{Steps, Never}
+use Rattle.grd_base.specs.declared.limits.Bound.TheVariants.{Steps}
 use Rattle.strips_model.specs.Plans.{State, set_of, step, step_without}
 use Rattle.strips_model.specs.Moves.{allowed_of}
 use Rattle.strips_model.specs.Values.{PlainTask}
 use Rattle.grd_base.specs.Rising.{has_id}
 use Rattle.strips_model.proofs.MoveLemmas.{allowed_good, step_allowed}
-use Rattle.strips_model.proofs.StateLemmas.{bits_eq, bits_eq-Decides, same_states}
+use Rattle.grd_base.proofs.SameLemmas.{bits_eq, bits_eq-Decides, same_by_members}
 use Rattle.cost_certificate.specs.Rows.{PlainRow}
 use Rattle.cost_certificate.specs.Tables.{IsAtMost, HasRow, SuccessorsHave, StepsHold, RowsHold}
 use Rattle.cost_certificate.specs.declared.rows.Why.TheVariants.{Steps as BySteps}
 use Rattle.cost_certificate.specs.Seen.{AreBest}
+use Rattle.cost_certificate.proofs.OrderLemmas.{at_most_itself, at_most_along, at_most_other}
 use Rattle.cost_certificate.proofs.EntryLemmas.{Any-weaker, Any-append_left, Any-contains, All-insert_entry, Any-inserted, Any-insert_entry}
-
--- a bound is at most itself
-pub at_most_itself : (b : Bound) → IsAtMost b b
-at_most_itself (Steps n) = omega arith
-at_most_itself Never = tt
-
--- a bound is at most what is at least one that it is at most
-pub at_most_along : (a b c : Bound) → IsAtMost a b → IsAtMost b c → IsAtMost a c
-at_most_along (Steps n) (Steps m) (Steps r) h k = omega arith
-at_most_along (Steps n) (Steps m) Never h k = tt
-at_most_along (Steps n) Never (Steps r) h k = absurd k
-at_most_along (Steps n) Never Never h k = tt
-at_most_along Never (Steps m) c h k = absurd h
-at_most_along Never Never c h k = k
-
--- of two bounds one is at most the other
-pub at_most_other : (a b : Bound) → (IsAtMost a b → ⊥) → IsAtMost b a
-at_most_other (Steps n) (Steps m) no_more = omega arith
-at_most_other (Steps n) Never no_more = absurd (no_more tt)
-at_most_other Never (Steps m) no_more = tt
-at_most_other Never Never no_more = tt
 
 -- a state with a row has it among more rows
 pub has_row_more : (before : List PlainRow) (row : PlainRow) (s : State) (b : Bound) → HasRow before s b → HasRow (before ++ row ∷ []) s b
@@ -108,7 +87,7 @@ best_tells {W} rows entries s need whole best = (to, from)
         All-contains (λ (r : PlainRow). Any (λ (e : Bits W × Bound). (members e.0 ≡ set_of r.state) × IsAtMost r.bound e.1) entries) rows row best.best (i, within, at) in
         let e = some.1 in
         let whole_e : IsWhole e.0 = All-contains (λ (x : Bits W × Bound). IsWhole x.0) entries e best.whole (some.0, some.2, some.3) in
-        (some.0, e, some.2, some.3, (same_states e.0 s whole_e whole (some.4.0 ∙ same), at_most_along need row.bound e.1 high some.4.1))
+        (some.0, e, some.2, some.3, (same_by_members e.0 s whole_e whole (some.4.0 ∙ same), at_most_along need row.bound e.1 high some.4.1))
 
 -- no rows and no entries
 pub best_none : {W : ℕ} (entries : List (Bits W × Bound)) → entries ≡ [] → AreBest [] entries
@@ -117,16 +96,6 @@ best_none {W} entries none = subst (AreBest []) (sym none) (record {
   shown = All-nil (λ (e : Bits W × Bound). HasRow [] (members e.0) e.1);
   best = All-nil (λ (r : PlainRow). Any (λ (e : Bits W × Bound). (members e.0 ≡ set_of r.state) × IsAtMost r.bound e.1) []);
 })
-
--- the first elements, and one more
-pub take_more : {X : Type 0} (xs : List X) (i : ℕ) (d : X) → i < length xs → take (i + 1) xs ≡ take i xs ++ get_or xs i d ∷ []
-take_more xs i d within =
-    let next : i + 1 ≡ suc i = omega arith in
-    ap (λ n. take n xs) next ∙ take-suc xs i d within
-
--- the same, where the one more is known
-pub take_next : {X : Type 0} (xs : List X) (i : ℕ) (x : X) → i < length xs → x ≡ get_or xs i x → take (i + 1) xs ≡ take i xs ++ x ∷ []
-take_next xs i x within is = take_more xs i x within ∙ ap (λ y. take i xs ++ y ∷ []) (sym is)
 
 -- an action that is not removed steps as without removed actions
 kept_step : (t : PlainTask) (removed : List ActionId) (s : State) (a : ActionId) → has_id removed a ≡ false → step_without t removed s a ≡ step t s a

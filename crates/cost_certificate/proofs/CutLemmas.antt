@@ -57,9 +57,6 @@ inserted keys new a b is = by (list_any (same_id a) keys) refl is
 abbrev pub AreGathered : List ActionId → List ActionId → List ActionId → Type 0
 AreGathered start front keys = (b : ActionId) → Contains keys b ↔ (Contains start b ⊎ Contains front b)
 
-pub gathered_none : (start : List ActionId) → AreGathered start [] start
-gathered_none start b = (λ there. inl there, λ h. elim h [ inl there ↦ there | inr none ↦ absurd (omega arith) ])
-
 -- one more element of the list is inserted
 pub gathered_more : (start actions keys new : List ActionId) (i : ℕ) (d : ActionId) → i < length actions → new ≡ insert_key same_id keys (get_or actions i d)
     → AreGathered start (take i actions) keys → AreGathered start (take (i + 1) actions) new

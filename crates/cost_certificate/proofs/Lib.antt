@@ -5,4 +5,5 @@ mod OneFault
 mod CutLemmas
 mod FamilyLemmas
 mod EntryLemmas
+pub mod OrderLemmas
 mod BoundLemmas

@@ -52,6 +52,7 @@ FailsSets t g removed s bound sets TooFewCuts place =
     (place ≡ 0) × IsFamily t g removed s sets × (CutsSuffice t removed sets bound → ⊥)
 FailsSets t g removed s bound sets kind place = IsFirstBadSet t g removed s sets kind place
 
+-- what a row by cuts fails by its sets; a row by steps has none
 abbrev pub FailsWhy : PlainTask → GoalId → List ActionId → PlainRow → Why → CheckKind → ℕ → Type 0
 FailsWhy t g removed row (Cuts sets) kind place = FailsSets t g removed (set_of row.state) row.bound sets kind place
 FailsWhy t g removed row BySteps kind place = ⊥

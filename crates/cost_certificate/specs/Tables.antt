@@ -54,7 +54,7 @@ abbrev pub RowsHold : PlainTask → List ActionId → List PlainRow → PlainRow
 RowsHold t removed rows row (Cuts sets) = Unit {0}
 RowsHold t removed rows row BySteps = StepsHold t removed rows (set_of row.state) row.bound
 
--- what a row has to be for itself: the goal does not hold in its state, and its sets, if it has any,
+-- what a row has to be for itself: the goal does not hold in its state, and the sets of a row by cuts
 -- hold
 pub record IsSoundRow (t : PlainTask) (g : GoalId) (removed : List ActionId) (row : PlainRow) : Type 0 where
   pub leaves_open : goal_holds t g (set_of row.state) ≡ false

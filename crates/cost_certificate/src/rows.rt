@@ -7,7 +7,7 @@ use strips_model::Family;
 pub enum Why {
     /// A plan takes an action of each cut of these sets.
     Cuts(Family),
-    /// Each successor of the state has a row of the table.
+    /// Each successor of the state has a row of the table that is high enough; for 0 steps none is needed.
     Steps,
 }
 

@@ -19,6 +19,7 @@ impl Model for Calls {
 }
 
 impl Calls {
+    /// No call was made yet.
     pub(crate) fn new(failing: Vec<u64>) -> Calls
         ensures { result ≡ record { failing = failing.items; made = 0 } }
     {

@@ -20,6 +20,7 @@ impl Model for Names {
 }
 
 impl Names {
+    /// No name failed yet.
     pub(crate) fn new(alloc: Global) -> Names
         ensures { result ≡ [] }
     {
@@ -39,6 +40,7 @@ impl Names {
         }
     }
 
+    /// Lists the name once more.
     fn note(&mut self, name: &str) -> Result<(), OutOfMemory>
         ensures noted { OnOk result (self.new ≡ self.old ++ name.now ∷ []) }
         ensures unnoted { OnErr result (self.new ≡ self.old) }

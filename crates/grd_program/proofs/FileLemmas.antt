@@ -1,7 +1,6 @@
 -- What was read of a file, as a fact on what its shelf tells.
-use Rattle.std.proofs.Common.{◌≡◌, ℕ, ◌^◌, ◌≤◌, List, [], ◌++◌, length, Option, Some, None, sym, subst, refl, ap, ◌⊎◌, inl, inr, arith}
+use Rattle.std.proofs.Common.{◌≡◌, ℕ, ◌^◌, ◌≤◌, List, ◌++◌, length, Option, Some, None, sym, subst, refl, ◌⊎◌, inl, inr}
 use Rattle.std.specs.Prelude.{IsSomeAnd, IfSome, IfOk, IsOk, IsOkAnd, Result, Ok, Err}
-use Rattle.std.specs.Option.{option_map_or}
 use Rattle.grd_io.specs.Bytes.{Told, IsWholeFile}
 use Rattle.pddl_reader.specs.Values.{PlainDomain, PlainProblem}
 use Rattle.pddl_reader.specs.Spelling.{IsDomainText, IsProblemText}
@@ -12,18 +11,13 @@ use Rattle.type_check.specs.declared.faults.CheckTypeFault.{CheckTypeFault}
 use Rattle.type_check.specs.declared.faults.CheckTypeFault.TheVariants.{Typing as IsTyping, OutOfMemory as TypingMemory}
 use Rattle.goal_files.specs.declared.faults.GoalFault.{GoalFault}
 use Rattle.goal_files.specs.declared.faults.GoalFault.TheVariants.{Shape, UnknownAtom, NoGoal, TooManyGoals, OutOfMemory as GoalsMemory}
-use Rattle.grd_program.specs.declared.command.OptionName.TheVariants.{MaxStates}
 use Rattle.grd_program.specs.declared.status.UsageFault.{UsageFault}
 use Rattle.grd_program.specs.declared.words.WordsFault.{WordsFault}
 use Rattle.grd_program.specs.declared.words.WordsFault.TheVariants.{Usage, OutOfMemory as NoMemory}
-use Rattle.grd_program.specs.Commands.{PlainJob, Reads, GivesNumber, IsNumber, IsUsageFault}
-use Rattle.grd_base.specs.declared.ids.ActionId.{ActionId}
-use Rattle.strips_model.specs.Common.{AreRight}
-use Rattle.ground_all.specs.Grounding.{ground_task}
+use Rattle.grd_program.specs.Commands.{PlainJob, Reads, IsUsageFault}
 use Rattle.grd_program.specs.declared.report.Question.{Question}
-use Rattle.grd_program.specs.declared.report.Question.TheVariants.{Wcd}
 use Rattle.pddl_print.specs.Canonical.{domain_text, problem_text}
-use Rattle.grd_program.specs.Reports.{action_names, IsWcdReport, IsReportOn}
+use Rattle.grd_program.specs.Reports.{IsReportOn}
 use Rattle.grd_base.specs.declared.roles.FileRole.{FileRole}
 use Rattle.pddl_reader.specs.declared.faults.PddlFault.{PddlFault}
 use Rattle.pddl_reader.specs.declared.faults.PddlFault.TheVariants.{Lex, Tree, Shape as PddlShape, Unsupported, DoubledSection, OutOfMemory as PddlMemory}
@@ -106,39 +100,6 @@ show_text_is told job d p text taken shown = each (told job.domain) (told job.pr
 pub ok_more : {T E : Type 0} (P Q : T → Type 0) (r : Result T E) → ((x : T) → P x → Q x) → IfOk r P → IfOk r Q
 ok_more P Q (Ok x) more p = more x p
 ok_more P Q (Err e) more p = tt
-
--- a number of states that the words give is at least one
-pub some_states : (words : List (List ℕ)) (job : PlainJob) → Reads words job → 1 ≤ job.limits.states
-some_states words job reads = at_least job.limits.states reads.states
-  where
-    at_least : (n : ℕ) → GivesNumber reads.items MaxStates 100000 n → 1 ≤ n
-    at_least n (inl (value, range, given, is, number)) = some n range value is number
-      where
-        some : (n : ℕ) (range : ℕ × ℕ) (value : List ℕ) → Some (1, 200000) ≡ Some range → IsNumber range value n → 1 ≤ n
-        some n range value is number =
-            let least : range.0 ≡ 1 = ap (λ o. (option_map_or (λ (r : ℕ × ℕ). r.0) o 1)) (sym is) in
-            omega (arith, number.least)
-    at_least n (inr (none, is)) = omega arith
-
--- and at most a million
-pub few_states : (words : List (List ℕ)) (job : PlainJob) → Reads words job → job.limits.states ≤ 1000000
-few_states words job reads = at_most job.limits.states reads.states
-  where
-    at_most : (n : ℕ) → GivesNumber reads.items MaxStates 100000 n → n ≤ 1000000
-    at_most n (inl (value, range, given, is, number)) = few n range value is number
-      where
-        few : (n : ℕ) (range : ℕ × ℕ) (value : List ℕ) → Some (1, 200000) ≡ Some range → IsNumber range value n → n ≤ 1000000
-        few n range value is number =
-            let greatest : range.1 ≡ 200000 = ap (λ o. (option_map_or (λ (r : ℕ × ℕ). r.1) o 200000)) (sym is) in
-            omega (arith, number.greatest)
-    at_most n (inr (none, is)) = omega arith
-
--- the report of 'wcd' answers its question
-pub wcd_report_on : (question : Question) (typed : PlainTyped) (goals : List (List PlainGroundAtom)) (found : List (Option (List ActionId))) (text : List ℕ)
-    → question ≡ Wcd → AreRight (ground_task typed goals) [] found → IsWcdReport (ground_task typed goals) (action_names typed) found text
-    → IsReportOn question typed goals text
-wcd_report_on question typed goals found text is right report =
-    subst (λ k. IsReportOn k typed goals text) (sym is) (found, right, report)
 
 -- what a reading of words says by its clauses, where it answers a job or a fault
 module _ (words : List (List ℕ)) (r : Result PlainJob WordsFault)

@@ -26,6 +26,7 @@ use Rattle.grd_program.specs.declared.status.LimitFault.TheVariants.{States}
 use Rattle.grd_program.specs.declared.status.Target.TheVariants.{Output}
 use Rattle.grd_program.specs.Commands.{flag_of}
 
+-- the word of a file
 abbrev pub role_text : FileRole → List ℕ
 role_text Domain = codes "domain"
 role_text Problem = codes "problem"

@@ -42,9 +42,6 @@ module _ {X : Type 0} (same : X → X → Bool) (decides : (x y : X) → Decides
   pub finds_none : (xs : List X) (x : X) → (Contains xs x → ⊥) → list_any (λ y. same y x) xs ≡ false
   finds_none xs x none = false_from_ne_true (list_any (λ y. same y x) xs) (λ e. none (found_by xs x e))
 
-  pub none_found : (xs : List X) (x : X) → list_any (λ y. same y x) xs ≡ false → Contains xs x → ⊥
-  none_found xs x e h = false≢true (sym e ∙ finds xs x h)
-
 pub same_atom_is : (a b : PlainGroundAtom) → Decides (is_same_atom a b) (a ≡ b)
 same_atom_is a b =
     Decides-like (is_same_atom a b) (λ e. ap₂ made e.0 e.1) (λ e. (ap (λ (x : PlainGroundAtom). x.predicate) e, ap (λ (x : PlainGroundAtom). x.objects) e))

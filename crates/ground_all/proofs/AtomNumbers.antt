@@ -1,6 +1,6 @@
 -- The numbers of atoms: rising lists, the places at which a test passes, and the fluent ones of a list.
-use Rattle.std.proofs.Common.{◌≡◌, ◌≢◌, ℕ, suc, zero, ◌+◌, ◌<◌, ◌≤◌, Bool, true, false, cond, ◌||◌, eqb, List, [], ◌∷◌, ◌++◌, length, take, get_or, refl, sym, ◌∙◌, ap, subst, inl, inr, arith, Ordering, Less, nat_cmp, Option, Some, None, slice_get}
-use mathlib.Core.Path.{ap₂}
+use Rattle.std.proofs.Common.{◌≡◌, ◌≢◌, ℕ, suc, zero, ◌+◌, ◌<◌, ◌≤◌, Bool, true, false, cond, ◌||◌, eqb, List, [], ◌∷◌, ◌++◌, length, take, get_or, refl, sym, ◌∙◌, ap, inl, inr, arith, Ordering, Less, nat_cmp, Option, Some, None, slice_get}
+use mathlib.Core.Path.{fun_ext}
 use Rattle.std.specs.Prelude.{AllPairs}
 use Rattle.std.specs.Bool.{Decides}
 use Rattle.std.specs.Cmp.{IsTotalOrder}
@@ -8,7 +8,7 @@ use Rattle.std.specs.Ordering.{eq_by_cmp}
 use Rattle.std.specs.Option.{option_map_or}
 use Rattle.std.specs.List.{AllByRecursion, dedup, dedup_from}
 use Rattle.std.specs.List.Sorted.{IsSorted, IsStrictlySortedBy, IsPermutation}
-use Rattle.std.proofs.lemmas.Bool.{cases_eq, cases_order, false≢true, or_cases, eqb-true, eq-eqb, ne_eqb, false_from_ne_true}
+use Rattle.std.proofs.lemmas.Bool.{cases_order, false≢true, eqb-true, eq-eqb, ne_eqb, false_from_ne_true}
 use Rattle.std.proofs.lemmas.Bool.Decides.{nat_tests, same_from_decides}
 use Rattle.std.proofs.lemmas.Cmp.{on_total, nat_cmp_total}
 use Rattle.std.proofs.lemmas.List.{take_more}
@@ -22,44 +22,7 @@ use Rattle.grd_base.specs.Rising.{IsRisingBy}
 use Rattle.strips_model.specs.Plans.{set_of}
 use Rattle.strips_model.specs.Values.{AreAtoms}
 use Rattle.strips_model.specs.Worlds.{has_atom, places_of}
-
-abbrev pub number : AtomId → ℕ
-number a = a.0
-
--- what is below all is not in the list
-member_above : (n m : ℕ) (xs : List AtomId) → AllByRecursion (λ y. n < y.0) xs → set_of xs m ≡ true → n < m
-member_above n m [] above h = absurd (false≢true h)
-member_above n m (x ∷ xs) above h =
-    elim (or_cases (eqb x.0 m) (set_of xs m) h) as (λ _. n < m) [ inl here ↦ omega (arith, eqb-true x.0 m here, above.0) | inr later ↦ member_above n m xs above.1 later ]
-
-not_below : (n : ℕ) (xs : List AtomId) → AllByRecursion (λ y. n < y.0) xs → set_of xs n ≡ false
-not_below n xs above = false_from_ne_true (set_of xs n) (λ h. absurd (let lt : n < n = member_above n n xs above h in omega arith))
-
--- the first of the other list is in this one, so it is no smaller than this one's first
-first_le : (x y : AtomId) (xs ys : List AtomId) → AllByRecursion (λ z. x.0 < z.0) xs → set_of (x ∷ xs) y.0 ≡ set_of (y ∷ ys) y.0 → x.0 ≤ y.0
-first_le x y xs ys above e =
-    let h : set_of (x ∷ xs) y.0 ≡ true = e ∙ ap (λ b. b || set_of ys y.0) (eq-eqb y.0 y.0 refl) in
-    elim (or_cases (eqb x.0 y.0) (set_of xs y.0) h) as (λ _. x.0 ≤ y.0) [ inl here ↦ omega (arith, eqb-true x.0 y.0 here) | inr later ↦ omega (arith, member_above x.0 y.0 xs above later) ]
-
-tails : (k n : ℕ) (xs ys : List AtomId) → AllByRecursion (λ z. k < z.0) xs → AllByRecursion (λ z. k < z.0) ys
-    → (eqb k n || set_of xs n) ≡ (eqb k n || set_of ys n) → set_of xs n ≡ set_of ys n
-tails k n xs ys ax ay e = elim (cases_eq k n) as (λ _. set_of xs n ≡ set_of ys n) [
-  | inl same ↦ subst (λ m. set_of xs m ≡ set_of ys m) same (not_below k xs ax ∙ sym (not_below k ys ay))
-  | inr other ↦ sym (ap (λ b. b || set_of xs n) (ne_eqb k n other)) ∙ e ∙ ap (λ b. b || set_of ys n) (ne_eqb k n other)
-]
-
--- rising lists with the same numbers are one
-rising_same : (xs ys : List AtomId) → IsRisingBy number xs → IsRisingBy number ys → ((n : ℕ) → set_of xs n ≡ set_of ys n) → xs ≡ ys
-rising_same [] [] rx ry e = refl
-rising_same [] (y ∷ ys) rx ry e = absurd (false≢true (e y.0 ∙ ap (λ b. b || set_of ys y.0) (eq-eqb y.0 y.0 refl)))
-rising_same (x ∷ xs) [] rx ry e = absurd (false≢true (sym (e x.0) ∙ ap (λ b. b || set_of xs x.0) (eq-eqb x.0 x.0 refl)))
-rising_same (x ∷ xs) (y ∷ ys) rx ry e =
-    let le : x.0 ≤ y.0 = first_le x y xs ys rx.0 (e y.0) in
-    let ge : y.0 ≤ x.0 = first_le y x ys xs ry.0 (sym (e x.0)) in
-    let same : y.0 ≡ x.0 = omega arith in
-    let ay : AllByRecursion (λ z. x.0 < z.0) ys = subst (λ k. AllByRecursion (λ z. k < z.0) ys) same ry.0 in
-    let rest : (n : ℕ) → set_of xs n ≡ set_of ys n = λ n. tails x.0 n xs ys rx.0 ay (e n ∙ ap (λ k. eqb k n || set_of ys n) same) in
-    ap₂ ◌∷◌ (ap (λ n. record { 0 = n }) (sym same)) (rising_same xs ys rx.1 ry.1 rest)
+use Rattle.strips_model.proofs.AtomLists.{number, not_below, rising_same}
 
 -- a sort and a dedup
 
@@ -178,13 +141,6 @@ module _ {A : Type 0} (p : A → Bool) where
 abbrev pub Numbered : {A : Type 0} → (A → A → Bool) → List A → List A → List AtomId → Type 0
 Numbered same fluents xs numbers = (n : ℕ) → set_of numbers n ≡ passes_at (has_atom same xs) fluents n
 
-pub numbered_none : {A : Type 0} (same : A → A → Bool) (fluents : List A) → Numbered same fluents [] []
-numbered_none {A} same fluents n = each (slice_get fluents n)
-  where
-    each : (o : Option A) → false ≡ option_map_or (λ x. false) o false
-    each None = refl
-    each (Some x) = refl
-
 or_false : (b : Bool) → (b || false) ≡ b
 or_false true = refl
 or_false false = refl
@@ -194,7 +150,7 @@ pub numbered_all : {A : Type 0} (same : A → A → Bool) (fluents xs : List A) 
     → IsPermutation numbers sorted → IsSorted rank sorted → dedup same_number sorted ≡ places_of (has_atom same xs) 0 fluents
 numbered_all same fluents xs numbers sorted numbered permuted in_order =
     rising_same _ _ (rising_dedup sorted in_order) (places_rise (has_atom same xs) 0 fluents)
-    (λ n. set_of-dedup sorted n ∙ sym (list_any-IsPermutation (λ a. eqb a.0 n) numbers sorted permuted) ∙ numbered n ∙ sym (set_of-places (has_atom same xs) fluents n))
+    (fun_ext (λ n. set_of-dedup sorted n ∙ sym (list_any-IsPermutation (λ a. eqb a.0 n) numbers sorted permuted) ∙ numbered n ∙ sym (set_of-places (has_atom same xs) fluents n)))
 
 -- an atom that stands at two places of different atoms stands at one
 same_place : {A : Type 0} (xs : List A) (i j : ℕ) (x : A) → AllPairs (λ a b. a ≢ b) xs → slice_get xs i ≡ Some x → slice_get xs j ≡ Some x → i ≡ j

@@ -15,7 +15,7 @@ use Rattle.ground_all.specs.Grounding.{is_fluent, atoms_of, names_of_schema, flu
 use Rattle.ground_all.specs.Sound.{ArePlaces, IsSound}
 use Rattle.ground_all.specs.Found.{atom_blocks, name_blocks}
 use Rattle.ground_all.proofs.TupleLaws.{has_fit, tuples_differ}
-use Rattle.ground_all.proofs.BlockLists.{in_map, in_flat_map, numbered_at, at_numbered, length-numbered, item_at, length-blocks, block_short, Differ, differ_map, differ_numbered, tuples_few}
+use Rattle.ground_all.proofs.BlockLists.{in_map, in_flat_map, numbered_at, at_numbered, length-numbered, item_at, length-blocks, Differ, differ_map, differ_numbered, tuples_few}
 
 pub block_item : {X : Type 0} (blocks : List (List X)) (n k : ℕ) (block : List X) (x : X) → slice_get blocks n ≡ Some block → slice_get block k ≡ Some x
     → slice_get (flat_map (λ (b : List X). b) blocks) (sum (take n (map length blocks)) + k) ≡ Some x
@@ -123,12 +123,6 @@ atoms_sum t = ap length (atoms_are t) ∙ length-blocks (atom_blocks t)
 
 pub instances_sum : (t : PlainTyped) → length (instances t) ≡ sum (map length (name_blocks t))
 instances_sum t = ap length (instances_are t) ∙ length-blocks (name_blocks t)
-
-pub atom_block_short : (t : PlainTyped) (n : ℕ) (block : List PlainGroundAtom) → slice_get (atom_blocks t) n ≡ Some block → length block ≤ length (fluent_atoms t)
-atom_block_short t n block at = omega (arith, atoms_sum t, block_short (atom_blocks t) n block at)
-
-pub name_block_short : (t : PlainTyped) (n : ℕ) (block : List PlainGroundName) → slice_get (name_blocks t) n ≡ Some block → length block ≤ length (instances t)
-name_block_short t n block at = omega (arith, instances_sum t, block_short (name_blocks t) n block at)
 
 -- at most 8 places with at most 1,024 objects have at most 2^80 tuples
 pub few_tuples : (places : List (List ℕ)) → ArePlaces places → length (tuples places) ≤ 2 ^ 80

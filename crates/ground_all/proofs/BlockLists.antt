@@ -5,20 +5,17 @@ use Rattle.std.proofs.Math.Nat.{pow-zero, pow-succ'}
 use Rattle.std.specs.Prelude.{◌⊎◌, All, AllPairs, slice_get}
 use Rattle.std.specs.List.{flat_map}
 use Rattle.std.proofs.lemmas.Nat.{mul-le}
-use Rattle.std.proofs.lemmas.Option.{none-some, same_Some, slice_get_within, slice_get-get_or, get_or_from_slice_get}
+use Rattle.std.proofs.lemmas.Option.{none-some, same_Some, slice_get_within, get_or_from_slice_get}
 use Rattle.std.proofs.lemmas.List.{length-map}
 use Rattle.std.proofs.lemmas.List.Concat.{length-flat_map}
 use Rattle.std.proofs.lemmas.List.Elements.{All-head, All-tail, All-weaker, All-append, All-map, Contains-get_or, Contains-append_right, Contains-append_cases}
 use Rattle.std.proofs.lemmas.List.Kept.{AllPairs-cons}
-use Rattle.std.proofs.lemmas.List.Sums.{sum_by-cons, sum_by-le, sum-map, get_or-le-sum_by}
+use Rattle.std.proofs.lemmas.List.Sums.{sum_by-cons, sum_by-le, sum-map}
 use Rattle.pddl_reader.proofs.OnceLaws.{AllPairs-none, AllPairs-head, AllPairs-tail}
 use Rattle.ground_all.specs.Tuples.{tuples, numbered}
 use Rattle.ground_all.specs.Found.{starts_of}
 
 -- ---- places and members
-
-pub member_place : {X : Type 0} (xs : List X) (x : X) → Contains xs x → (i : ℕ) × (slice_get xs i ≡ Some x)
-member_place xs x h = (h.0, slice_get-get_or xs h.0 x h.1 ∙ ap (λ y. Some y) h.2)
 
 pub place_member : {X : Type 0} (xs : List X) (i : ℕ) (x : X) → slice_get xs i ≡ Some x → Contains xs x
 place_member xs i x h = (i, slice_get_within xs i x h, get_or_from_slice_get xs i x x h)
@@ -110,10 +107,6 @@ item_at {X} (b ∷ blocks) (suc n) k block x at within =
 -- the whole is as long as the blocks together
 pub length-blocks : {X : Type 0} (blocks : List (List X)) → length (flat_map (λ (b : List X). b) blocks) ≡ sum (map length blocks)
 length-blocks {X} blocks = length-flat_map (λ (b : List X). b) blocks ∙ sym (sum-map (λ (b : List X). length b) blocks)
-
-pub block_short : {X : Type 0} (blocks : List (List X)) (n : ℕ) (block : List X) → slice_get blocks n ≡ Some block → length block ≤ sum (map length blocks)
-block_short {X} blocks n block at =
-    omega (arith, get_or-le-sum_by (λ (b : List X). length b) blocks n block (slice_get_within blocks n block at), ap length (get_or_from_slice_get blocks n block block at), sum-map (λ (b : List X). length b) blocks)
 
 -- ---- first numbers
 

@@ -1,9 +1,9 @@
 -- The tuples of places: their objects fit, and no two are the same.
 use Rattle.std.specs.Prelude.{◌≡◌, ◌≢◌, ℕ, ◌<◌, List, length, All, AllPairs, Contains}
-use Rattle.std.proofs.Common.{[], ◌∷◌, ◌++◌, suc, zero, map, get_or, refl, sym, ap, ◌∙◌, subst, inl, inr, arith, ◌⊎◌}
+use Rattle.std.proofs.Common.{[], ◌∷◌, ◌++◌, suc, zero, map, get_or, refl, ap, subst, inl, inr, arith, ◌⊎◌}
 use Rattle.std.specs.List.{flat_map}
 use Rattle.std.proofs.lemmas.List.{get_or-map, length-map}
-use Rattle.std.proofs.lemmas.List.Elements.{All-nil, All-cons, All-head, All-tail, All-append, All-contains, All-from_recursion, Contains-get_or, Contains-append_left, Contains-append_right, Contains-append_cases}
+use Rattle.std.proofs.lemmas.List.Elements.{All-nil, All-cons, All-head, All-tail, All-append, All-contains, All-from_recursion, Contains-get_or, Contains-append_right, Contains-append_cases}
 use Rattle.std.proofs.lemmas.List.Kept.{AllPairs-cons}
 use Rattle.grd_base.specs.Rising.{IsRisingBy}
 use Rattle.ground_all.specs.Tuples.{tuples, FitPlaces}
@@ -22,9 +22,6 @@ first : {X : Type 0} (x : X) (xs : List X) → Contains (x ∷ xs) x
 first x xs = (0, omega arith, refl)
 
 module _ {X Y : Type 0} (f : X → Y) where
-  map_has : (xs : List X) (x : X) → Contains xs x → Contains (map f xs) (f x)
-  map_has xs x (k, within, is) = (k, omega (arith, length-map xs f), get_or-map f xs k x (f x) within ∙ ap f is)
-
   has_map : (xs : List X) (y : Y) → Contains (map f xs) y → (x : X) × Contains xs x × (f x ≡ y)
   has_map [] y has = absurd (in_none y has)
   has_map (x ∷ xs) y has = elim (first_or_later (f x) (map f xs) y has) [
@@ -33,13 +30,6 @@ module _ {X Y : Type 0} (f : X → Y) where
   ]
 
 module _ {X Y : Type 0} (f : X → List Y) where
-  flat_map_has : (xs : List X) (x : X) (y : Y) → Contains xs x → Contains (f x) y → Contains (flat_map f xs) y
-  flat_map_has [] x y has there = absurd (in_none x has)
-  flat_map_has (z ∷ xs) x y has there = elim (first_or_later z xs x has) [
-    | inl is ↦ Contains-append_left (f z) (flat_map f xs) y (subst (λ w. Contains (f w) y) (sym is) there)
-    | inr later ↦ Contains-append_right (f z) (flat_map f xs) y (flat_map_has xs x y later there)
-  ]
-
   has_flat_map : (xs : List X) (y : Y) → Contains (flat_map f xs) y → (x : X) × Contains xs x × Contains (f x) y
   has_flat_map [] y has = absurd (in_none y has)
   has_flat_map (x ∷ xs) y has = elim (Contains-append_cases (f x) (flat_map f xs) y has) [
@@ -68,13 +58,6 @@ module _ {Y : Type 0} (f : ℕ → List Y) (each : (k : ℕ) → AllPairs (λ a 
 -- the tuples that begin with this object
 abbrev pub with_first : List (List ℕ) → ℕ → List (List ℕ)
 with_first rests k = map (λ (rest : List ℕ). k ∷ rest) rests
-
-pub fit_has : (places : List (List ℕ)) (objects : List ℕ) → FitPlaces places objects → Contains (tuples places) objects
-fit_has [] [] fit = first [] []
-fit_has [] (k ∷ objects) fit = absurd fit
-fit_has (place ∷ places) [] fit = absurd fit
-fit_has (place ∷ places) (k ∷ objects) fit =
-    flat_map_has (with_first (tuples places)) place k (k ∷ objects) fit.0 (map_has (λ (rest : List ℕ). k ∷ rest) (tuples places) objects (fit_has places objects fit.1))
 
 pub has_fit : (places : List (List ℕ)) (objects : List ℕ) → Contains (tuples places) objects → FitPlaces places objects
 has_fit [] objects has = elim (first_or_later [] [] objects has) [

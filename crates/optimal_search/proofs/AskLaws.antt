@@ -12,7 +12,7 @@ use Rattle.grd_base.specs.declared.limits.Bound.TheVariants.{Steps, Never}
 use Rattle.grd_base.specs.Bits.{members, IsWhole}
 use Rattle.grd_base.specs.Counts.{MoreThan}
 use Rattle.strips_model.specs.Values.{PlainTask, IsTask}
-use Rattle.strips_model.specs.Plans.{State, set_of, start_of, after, goal_holds, Reaches, IsCost}
+use Rattle.strips_model.specs.Plans.{State, set_of, start_of, after, goal_holds, Reaches, IsCost, IsOver}
 use Rattle.search_core.specs.declared.rows.KeptRow.{KeptRow}
 use Rattle.search_core.specs.Spaces.{IsDoneWithin}
 use Rattle.search_core.specs.declared.rows.WithinAnswer.{WithinAnswer}
@@ -21,13 +21,13 @@ use Rattle.search_core.specs.Answers.{IsDonePath, rows_of as rows_in, HasStartRo
 use Rattle.search_core.specs.Tables.{AreRefuted, AreCounted, HasRow, HasNeverRow}
 use Rattle.cost_certificate.specs.Rows.{PlainRow}
 use Rattle.cost_certificate.specs.Tables.{IsValidTable, IsSoundRow, RowsHold, IsAtMost, Refutes, HasRow as HasTableRow}
-use Rattle.optimal_search.specs.Space.{successors_of, IsOver}
+use Rattle.optimal_search.specs.Space.{successors_of}
 use Rattle.optimal_search.specs.Rows.{row_of}
-use Rattle.optimal_search.specs.Reach.{IsWithinSteps, IsReachedWithout}
+use Rattle.strips_model.specs.Reached.{IsWithinSteps, IsReachedWithout}
 use Rattle.optimal_search.specs.Least.{IsFar, RefuteFewer, AreTooMany}
 use Rattle.optimal_search.specs.Oracles.{PlainOracle, IsAlike, IsSoundOracle, HasStartRow}
 use Rattle.optimal_search.proofs.SpaceLaws.{IsState, walk_leads, reaches_done, more_within}
-use Rattle.optimal_search.proofs.OracleLaws.{at_most_trans}
+use Rattle.cost_certificate.proofs.OrderLemmas.{at_most_along}
 use Rattle.optimal_search.proofs.RowLaws.{shows_zero, rows_within, rows_valid, has_row, has_never}
 
 -- no number from the bound on is in a list of atoms below the bound
@@ -99,7 +99,7 @@ pub record AreOfCost {W : ℕ} {M : Type 0} (o : PlainOracle) (least : Option �
 
 -- a row with `Never` serves for each number
 from_never : (rows : List PlainRow) (s : State) (r : ℕ) → HasTableRow rows s Never → HasTableRow rows s (Steps r)
-from_never rows s r (k, row, within, at, (same, low)) = (k, row, within, at, (same, at_most_trans (Steps r) Never row.bound tt low))
+from_never rows s r (k, row, within, at, (same, low)) = (k, row, within, at, (same, at_most_along (Steps r) Never row.bound tt low))
 
 module _ {W : ℕ} (t : PlainTask) (g : GoalId) (removed : List ActionId) (is : IsTask t) (wide : t.atoms ≤ 64 * W) (s : Bits W) (state : IsState t s) where
   abbrev done : Bits W → Bool

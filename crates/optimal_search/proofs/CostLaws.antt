@@ -15,21 +15,20 @@ use Rattle.grd_base.specs.declared.ids.GoalId.{GoalId}
 use Rattle.grd_base.specs.declared.limits.Bound.TheVariants.{Steps, Never}
 use Rattle.grd_base.specs.Bits.{members, IsWhole}
 use Rattle.grd_base.specs.Counts.{AllDistinct, MoreThan}
+use Rattle.grd_base.proofs.SameLemmas.{same_by_members}
 use Rattle.strips_model.specs.Values.{PlainTask, IsTask}
-use Rattle.strips_model.specs.Plans.{State, set_of, step_without, after, start_of, goal_holds, Reaches, IsPlan}
-use Rattle.strips_model.specs.Reached.{IsReachedFor}
+use Rattle.strips_model.specs.Plans.{State, set_of, step_without, after, start_of, goal_holds, Reaches, IsPlan, IsOver}
+use Rattle.strips_model.specs.Reached.{IsReachedFor, IsWithinSteps}
 use Rattle.strips_model.specs.Moves.{PlainMoves}
 use Rattle.strips_model.proofs.MoveLemmas.{step_by}
-use Rattle.strips_model.proofs.StateLemmas.{same_states}
 use Rattle.search_core.specs.declared.rows.KeptRow.{KeptRow}
 use Rattle.search_core.specs.Spaces.{IsPath, IsDoneWithin}
 use Rattle.search_core.specs.Answers.{IsDonePath}
 use Rattle.search_core.specs.Tables.{AreRefuted, AreCounted, HasNeverRow, unmarked}
 use Rattle.cost_certificate.specs.Tables.{HasRow as HasTableRow, IsRowOver}
 use Rattle.cost_certificate.specs.Found.{PlainCost, IsShown}
-use Rattle.optimal_search.specs.Space.{successors_of, IsOver}
+use Rattle.optimal_search.specs.Space.{successors_of}
 use Rattle.optimal_search.specs.Rows.{row_of}
-use Rattle.optimal_search.specs.Reach.{IsWithinSteps}
 use Rattle.optimal_search.specs.Least.{IsLeast, IsFar, RefuteFewer, AreTooMany}
 use Rattle.optimal_search.specs.declared.least.Least.{Least}
 use Rattle.optimal_search.specs.Costs.{states_by_steps, AreFewReached, IsRightCost}
@@ -166,7 +165,7 @@ module _ {W : ℕ} (t : PlainTask) (g : GoalId) (is : IsTask t) (wide : t.atoms 
                 (All-weaker (λ row. IsState t row.state × IsWithinSteps t [] (members s) r (members row.state)) (λ row. IsReachedFor t g (members row.state))
                 (λ row both. within_reached r far (members row.state) both.1) rows each_within)));
             distinct = subst (λ sets. AllDistinct sets) (sym same)
-                (distinct_map members (IsState t) (λ x y at_x at_y. same_states x y at_x.whole at_y.whole) states (All-map (IsState t) (λ row. row.state) rows each_state)
+                (distinct_map members (IsState t) (λ x y at_x at_y. same_by_members x y at_x.whole at_y.whole) states (All-map (IsState t) (λ row. row.state) rows each_state)
                 (subst (λ xs. AllDistinct xs) all_unmarked counted.distinct));
             few = omega (arith, ap length same, length-map states (members {W = W}), ap length all_unmarked, counted.few);
           }

@@ -12,7 +12,7 @@ use Rattle.strips_model.specs.Values.{PlainTask}
 use Rattle.search_core.specs.declared.rows.KeptRow.{KeptRow}
 use Rattle.cost_certificate.specs.Rows.{PlainRow}
 use Rattle.cost_certificate.specs.Tables.{IsAtMost, HasRow, IsRowOver, IsValidTable}
-use Rattle.optimal_search.specs.Space.{IsOver}
+use Rattle.strips_model.specs.Plans.{IsOver}
 use Rattle.optimal_search.specs.Rows.{row_of, row_by_steps, rows_kept}
 use Rattle.optimal_search.specs.Kept.{IsNumbered, IsBoundOf, KeepsRows}
 use Rattle.optimal_search.specs.Oracles.{HasAllOf, AreKept}

@@ -3,13 +3,12 @@ use Rattle.std.proofs.Common.{◌≡◌, ◌≢◌, ◌⊎◌, ℕ, zero, suc, s
 use Rattle.std.specs.Prelude.{slice_get, slice_index_or, All, Any, Contains}
 use Rattle.std.proofs.lemmas.Option.{slice_get_within}
 use Rattle.std.proofs.lemmas.List.{length-append, length-set}
-use Rattle.std.proofs.lemmas.List.Elements.{All-nil, All-push, Contains-append_left}
+use Rattle.std.proofs.lemmas.List.Elements.{All-push, Contains-append_left}
 use Rattle.std.proofs.lemmas.List.Quantifiers.{Any-push}
-use Rattle.std.proofs.lemmas.Bool.{cases_eq, cases_lt}
-use Rattle.grd_base.specs.declared.limits.Bound.TheVariants.{Steps, Never}
+use Rattle.std.proofs.lemmas.Bool.{cases_eq}
 use Rattle.grd_base.specs.Bits.{members}
-use Rattle.optimal_search.specs.Space.{IsOver}
-use Rattle.optimal_search.proofs.OracleLaws.{at_most_trans}
+use Rattle.strips_model.specs.Plans.{IsOver}
+use Rattle.cost_certificate.proofs.OrderLemmas.{at_most_itself, at_most_along}
 use Rattle.std.proofs.Math.Seq.{take-append_seam}
 use Rattle.grd_base.specs.declared.bits.Bits.{Bits}
 use Rattle.grd_base.specs.declared.limits.Bound.{Bound}
@@ -126,16 +125,6 @@ any_left P xs ys (k, x, within, at, holds) =
     let there = Contains-append_left xs ys x (k, within, at) in
     (there.0, x, there.1, there.2, holds)
 
-at_most_same : (b : Bound) → IsAtMost b b
-at_most_same (Steps n) = omega arith
-at_most_same Never = tt
-
-pub at_most_other : (a b : Bound) → (IsAtMost a b → ⊥) → IsAtMost b a
-at_most_other (Steps n) (Steps r) h = elim (cases_lt r n) [ inl below ↦ omega arith | inr from ↦ absurd (h from) ]
-at_most_other (Steps n) Never h = absurd (h tt)
-at_most_other Never (Steps r) h = tt
-at_most_other Never Never h = tt
-
 -- one element set anew
 set_here : {X : Type 0} (xs : List X) (n : ℕ) (x : X) → n < length xs → slice_get (set xs n x) n ≡ Some x
 set_here [] n x within = absurd (omega arith)
@@ -160,7 +149,7 @@ set_raised old n bound within lower = record {
   others = λ k differ. set_other old n k (Some bound) differ;
   higher = bound;
   is = set_here old n (Some bound) within;
-  enough = at_most_same bound;
+  enough = at_most_itself bound;
   from = inl refl;
   risen = lower;
 }
@@ -174,18 +163,10 @@ stays_raised old n known bound at enough = record {
   is = at;
   enough = enough;
   from = inr at;
-  risen = λ other there. subst (λ b. IsAtMost b known) (some_bound known other (sym at ∙ there)) (at_most_same known);
+  risen = λ other there. subst (λ b. IsAtMost b known) (some_bound known other (sym at ∙ there)) (at_most_itself known);
 }
 
 module _ {W : ℕ} {M : Type 0} (states : List (Bits W)) (old : List (Option Bound)) where
-  pub none_raised : IsRaised {M = M} states old old []
-  none_raised = record {
-    matched = refl;
-    from = λ n s bound at is. inl is;
-    risen = λ n bound is. (bound, is, at_most_same bound);
-    held = All-nil _;
-  }
-
   -- one more row's bound
   pub raised_more : (new newer : List (Option Bound)) (rows : List (KeptRow (Bits W) M)) (row : KeptRow (Bits W) M) (n : ℕ) → slice_get states n ≡ Some row.state
       → IsRaised states old new rows → IsRaisedAt new newer n row.bound → IsRaised states old newer (rows ++ row ∷ [])
@@ -202,17 +183,17 @@ module _ {W : ℕ} {M : Type 0} (states : List (Bits W)) (old : List (Option Bou
       goes : (k : ℕ) (bound : Bound) → slice_get new k ≡ Some (Some bound) → (higher : Bound) × (slice_get newer k ≡ Some (Some higher)) × IsAtMost bound higher
       goes k bound is = elim (cases_eq k n) as (λ _. (higher : Bound) × (slice_get newer k ≡ Some (Some higher)) × IsAtMost bound higher) [
         | inl same ↦ (one.higher, ap (slice_get newer) same ∙ one.is, one.risen bound (ap (slice_get new) (sym same) ∙ is))
-        | inr differ ↦ (bound, one.others k differ ∙ is, at_most_same bound)
+        | inr differ ↦ (bound, one.others k differ ∙ is, at_most_itself bound)
       ]
 
       lift : (r : KeptRow (Bits W) M) → ((m : ℕ) × (higher : Bound) × (slice_get states m ≡ Some r.state) × (slice_get new m ≡ Some (Some higher)) × IsAtMost r.bound higher) → Held r
-      lift r (m, higher, there, is, enough) = let up = goes m higher is in (m, up.0, there, up.1, at_most_trans r.bound higher up.0 enough up.2)
+      lift r (m, higher, there, is, enough) = let up = goes m higher is in (m, up.0, there, up.1, at_most_along r.bound higher up.0 enough up.2)
 
       risen : (k : ℕ) (bound : Bound) → slice_get old k ≡ Some (Some bound) → (higher : Bound) × (slice_get newer k ≡ Some (Some higher)) × IsAtMost bound higher
       risen k bound is =
           let first = raised.risen k bound is in
           let up = goes k first.0 first.1 in
-          (up.0, up.1, at_most_trans bound first.0 up.0 first.2 up.2)
+          (up.0, up.1, at_most_along bound first.0 up.0 first.2 up.2)
 
       more : (s : Bits W) (bound : Bound) → Any (λ r. (r.state ≡ s) × (r.bound ≡ bound)) rows → Any (λ r. (r.state ≡ s) × (r.bound ≡ bound)) (rows ++ row ∷ [])
       more s bound any = any_left (λ r. (r.state ≡ s) × (r.bound ≡ bound)) rows (row ∷ []) any

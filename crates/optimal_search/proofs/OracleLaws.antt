@@ -15,6 +15,7 @@ use Rattle.cost_certificate.specs.declared.rows.Why.{Why}
 use Rattle.cost_certificate.specs.declared.rows.Why.TheVariants.{Cuts, Steps as BySteps}
 use Rattle.cost_certificate.specs.Rows.{PlainRow}
 use Rattle.cost_certificate.specs.Tables.{IsAtMost, HasRow, RowsHold, StepsHold, IsSoundRow, IsValidTable}
+use Rattle.cost_certificate.proofs.OrderLemmas.{at_most_along}
 use Rattle.optimal_search.specs.Rows.{row_of}
 use Rattle.optimal_search.specs.Kept.{KeepsRows}
 use Rattle.optimal_search.specs.Oracles.{HasAllOf, HasStartRow}
@@ -35,21 +36,11 @@ Contains-map f xs x (k, within, at) = (k, omega (arith, length-map xs f), get_or
 All-from_contains : {X : Type 0} (P : X → Type 0) (xs : List X) → ((x : X) → Contains xs x → P x) → All P xs
 All-from_contains P xs each = λ k d within. each (get_or xs k d) (Contains-get_or xs k d within)
 
--- of three bounds, each at most the next, the first is at most the last
-pub at_most_trans : (a b c : Bound) → IsAtMost a b → IsAtMost b c → IsAtMost a c
-at_most_trans (Steps i) (Steps j) (Steps k) low high = omega arith
-at_most_trans (Steps i) (Steps j) Never low high = tt
-at_most_trans (Steps i) Never (Steps k) low high = absurd high
-at_most_trans (Steps i) Never Never low high = tt
-at_most_trans Never (Steps j) c low high = absurd low
-at_most_trans Never Never (Steps k) low high = absurd high
-at_most_trans Never Never Never low high = tt
-
 -- where a row of one table lies under one of another, what it is a row for the other has one for
 row_under : (new : List PlainRow) (row higher : PlainRow) (s : State) (bound : Bound) → Contains new higher → higher.state ≡ row.state → IsAtMost row.bound higher.bound
     → set_of row.state ≡ s → IsAtMost bound row.bound → HasRow new s bound
 row_under new row higher s bound there same above is low =
-    (there.0, higher, there.1, there.2, (ap set_of same ∙ is, at_most_trans bound row.bound higher.bound low above))
+    (there.0, higher, there.1, there.2, (ap set_of same ∙ is, at_most_along bound row.bound higher.bound low above))
 
 -- a row that is supported by some rows is supported by rows that have all of them
 steps_grow : (t : PlainTask) (removed : List ActionId) (old new : List PlainRow) → HasAllOf old new → (s : State) (bound : Bound) → StepsHold t removed old s bound → StepsHold t removed new s bound

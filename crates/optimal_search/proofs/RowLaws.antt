@@ -21,7 +21,7 @@ use Rattle.search_core.specs.Tables.{IsRefuted, IsRefutedBySteps, IsRefutedByMar
 use Rattle.cost_certificate.specs.Tables.{IsAtMost, IsSoundRow, RowsHold, StepsHold, IsValidTable, HasRow as HasTableRow}
 use Rattle.optimal_search.specs.Space.{successors_of}
 use Rattle.optimal_search.specs.Rows.{row_of}
-use Rattle.optimal_search.specs.Reach.{IsWithinSteps}
+use Rattle.strips_model.specs.Reached.{IsWithinSteps}
 use Rattle.optimal_search.proofs.SpaceLaws.{IsState, leads_walk, counts_within}
 use Rattle.optimal_search.proofs.ListLaws.{atoms_have}
 

@@ -5,11 +5,12 @@ use Rattle.grd_base.specs.declared.ids.ActionId.{ActionId}
 use Rattle.grd_base.specs.declared.ids.GoalId.{GoalId}
 use Rattle.grd_base.specs.Bits.{members, IsWhole}
 use Rattle.grd_base.specs.Counts.{MoreThan}
+use Rattle.grd_base.proofs.SameLemmas.{same_by_members}
 use Rattle.strips_model.specs.Values.{PlainTask, IsTask}
-use Rattle.strips_model.specs.Plans.{State, after, goal_holds, Reaches}
+use Rattle.strips_model.specs.Plans.{State, after, goal_holds, Reaches, IsOver, step_without}
 use Rattle.search_core.specs.Spaces.{IsWalk, end_of, actions_of, IsDoneWithin, Counts}
-use Rattle.optimal_search.specs.Space.{successors_of, IsOver}
-use Rattle.optimal_search.specs.Reach.{IsWithinSteps}
+use Rattle.optimal_search.specs.Space.{successors_of}
+use Rattle.strips_model.specs.Reached.{IsWithinSteps}
 use Rattle.std.proofs.Common.{◌<◌, [], ◌∷◌, ◌+◌, map, get_or, refl, sym, ◌∙◌, ap, subst, arith, None}
 use Rattle.std.specs.Prelude.{Contains, IsSomeAnd, IsTrue, All}
 use Rattle.std.specs.Option.{option_and_then}
@@ -17,8 +18,6 @@ use Rattle.std.proofs.lemmas.List.{length-map, get_or-map}
 use Rattle.std.proofs.lemmas.List.Elements.{All-map, All-weaker}
 use Rattle.std.proofs.lemmas.Option.{option_and_then_some}
 use Rattle.grd_base.specs.Bits.{bits_of}
-use Rattle.strips_model.specs.Plans.{step_without}
-use Rattle.strips_model.proofs.StateLemmas.{same_states}
 use Rattle.optimal_search.proofs.StepLaws.{step_over, packed_whole, packed_members, successor_from, successor_has}
 
 -- a state of the task, as a program holds it
@@ -46,10 +45,6 @@ after_first t removed s u a p leads = option_and_then_some (λ v. after t remove
 some_and : {X : Type 0} (o : Option X) (P : X → Type 0) → IsSomeAnd o P → (x : X) × (o ≡ Some x) × P x
 some_and None P h = absurd h
 some_and (Some x) P h = (x, refl, h)
-
--- a value of which something holds
-some_has : {X : Type 0} (o : Option X) (P : X → Type 0) (x : X) → o ≡ Some x → P x → IsSomeAnd o P
-some_has {X} o P x is h = let Q : Option X → Type 0 = λ v. IsSomeAnd v P in subst Q (sym is) h
 
 module _ {W : ℕ} (t : PlainTask) (removed : List ActionId) (is : IsTask t) (wide : t.atoms ≤ 64 * W) where
   -- the bit set that is made of a state over the atoms of the task is a state of it
@@ -91,14 +86,6 @@ module _ {W : ℕ} (t : PlainTask) (removed : List ActionId) (is : IsTask t) (wi
       let same : members next ≡ first.0 = packed_members W t first.0 wide over in
       let rest = leads_walk next p u (packed_state first.0 over) (ap (λ v. after t removed v p) same ∙ first.2) in
       ((a, next) ∷ rest.0, (successor_has t removed s a first.0 first.1, rest.1), ap (λ others. a ∷ others) rest.2, rest.3)
-
-  -- where a done state lies within so many steps, a sequence of at most so many reaches the goal
-  pub done_reaches : (g : GoalId) (s : Bits W) (n : ℕ) → IsState t s → IsDoneWithin (successors_of t removed) (λ x. goal_holds t g (members x)) s n
-      → (p : List ActionId) × Reaches t g removed (members s) p × (length p ≤ n)
-  done_reaches g s n state done =
-      let leads : after t removed (members s) done.path ≡ Some (members done.end) =
-      ap (after t removed (members s)) (sym done.leads.carries) ∙ walk_leads s done.leads.walk state done.leads.steps ∙ ap (λ (x : Bits W). Some (members x)) done.leads.ends in
-      (done.path, some_has (after t removed (members s) done.path) (λ u. IsTrue (goal_holds t g u)) (members done.end) leads done.done, done.short)
 
   -- where a sequence reaches the goal, a done state lies within its length
   pub reaches_done : (g : GoalId) (s : Bits W) (p : List ActionId) → IsState t s → Reaches t g removed (members s) p
@@ -142,7 +129,7 @@ module _ {W : ℕ} (t : PlainTask) (removed : List ActionId) (is : IsTask t) (wi
             let later : j < length more.items = omega arith in
             let earlier : i < length more.items = omega arith in
             more.differ i j e before later
-            (same_states (get_or more.items i e) (get_or more.items j e) (reached i e earlier).0.whole (reached j e later).0.whole
+            (same_by_members (get_or more.items i e) (get_or more.items j e) (reached i e earlier).0.whole (reached j e later).0.whole
             (sym (get_or-map members more.items i e d earlier) ∙ same ∙ get_or-map members more.items j e d later));
         have = All-map (IsWithinSteps t removed (members s) r) members more.items
             (All-weaker (λ u. IsState t u × IsWithinSteps t removed (members s) r (members u)) (λ u. IsWithinSteps t removed (members s) r (members u)) (λ u both. both.1) more.items reached);

@@ -14,10 +14,10 @@ use Rattle.grd_base.specs.Rising.{has_id}
 use Rattle.grd_base.specs.Bits.{members, bits_of, IsWhole}
 use Rattle.grd_base.proofs.PackedLemmas.{words_wide, words_fit, words_have}
 use Rattle.strips_model.specs.Values.{PlainTask, IsTask, IsActionBelow, GroundAction}
-use Rattle.strips_model.specs.Plans.{State, set_of, step, step_without, effect}
+use Rattle.strips_model.specs.Plans.{State, set_of, step, step_without, effect, IsOver}
 use Rattle.strips_model.specs.Moves.{allowed_of}
 use Rattle.strips_model.proofs.MoveLemmas.{allowed_good, step_by, step_allowed, IsStepBy}
-use Rattle.optimal_search.specs.Space.{labelled_step, successors_of, IsOver}
+use Rattle.optimal_search.specs.Space.{labelled_step, successors_of}
 
 -- the one element of a list
 only_element : {Y : Type 0} (w y : Y) → Contains (w ∷ []) y → w ≡ y

@@ -1,6 +1,5 @@
 pub mod Space
 pub mod Floors
-pub mod Reach
 pub mod Least
 pub mod Rows
 pub mod Costs

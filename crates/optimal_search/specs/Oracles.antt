@@ -7,10 +7,9 @@ use Rattle.grd_base.specs.declared.limits.Bound.{Bound}
 use Rattle.grd_base.specs.declared.limits.Bound.TheVariants.{Steps, Never}
 use Rattle.grd_base.specs.Bits.{members}
 use Rattle.strips_model.specs.Values.{PlainTask}
-use Rattle.strips_model.specs.Plans.{State, start_of}
+use Rattle.strips_model.specs.Plans.{State, start_of, IsOver}
 use Rattle.cost_certificate.specs.Rows.{PlainRow}
 use Rattle.cost_certificate.specs.Tables.{HasRow, IsValidTable}
-use Rattle.optimal_search.specs.Space.{IsOver}
 use Rattle.optimal_search.specs.Rows.{rows_kept}
 
 -- an oracle: its task, goal and removed actions, how many states a question may count, and its rows

@@ -1,12 +1,12 @@
 -- The space of a task without removed actions: its states are bit sets.
-use Rattle.std.specs.Prelude.{◌≡◌, ℕ, ◌≤◌, false, List, Option}
+use Rattle.std.specs.Prelude.{ℕ, List, Option}
 use Rattle.std.specs.Option.{option_map}
 use Rattle.std.specs.List.{filter_map}
 use Rattle.grd_base.specs.declared.bits.Bits.{Bits}
 use Rattle.grd_base.specs.declared.ids.ActionId.{ActionId}
 use Rattle.grd_base.specs.Bits.{members, bits_of}
 use Rattle.strips_model.specs.Values.{PlainTask}
-use Rattle.strips_model.specs.Plans.{State, step}
+use Rattle.strips_model.specs.Plans.{step}
 use Rattle.strips_model.specs.Moves.{allowed_of}
 
 -- the step of the action from the state, where it applies
@@ -16,7 +16,3 @@ labelled_step t s a = option_map (λ u. (a, bits_of u)) (step t (members s) a)
 -- the steps from the state by actions that are not removed, in the order of the actions' numbers
 unfoldable pub successors_of : {W : ℕ} → PlainTask → List ActionId → Bits W → List (ActionId × Bits W)
 successors_of t removed s = filter_map (labelled_step t s) (allowed_of t removed)
-
--- the state has atoms of the task alone
-abbrev pub IsOver : PlainTask → State → Type 0
-IsOver t s = (n : ℕ) → t.atoms ≤ n → s n ≡ false

@@ -2,7 +2,6 @@ ghost use Rattle.std.specs.Prelude.{◌≡◌, ℕ, ◌*◌, ◌<◌, ◌≤◌,
 ghost use Rattle.grd_base.specs.declared.limits.Bound.TheVariants.{Steps};
 ghost use Rattle.grd_base.specs.Bits.{members};
 ghost use Rattle.grd_base.specs.Counts.{MoreThan};
-ghost use Rattle.strips_model.specs.Values.{IsTask};
 ghost use Rattle.strips_model.specs.Plans.{start_of, goal_holds};
 ghost use Rattle.strips_model.specs.Reached.{IsReachedFor};
 ghost use Rattle.cost_certificate.specs.Found.{PlainCost};
@@ -13,19 +12,12 @@ ghost use Rattle.optimal_search.specs.Least.{IsLeast};
 use crate::faults::GoalSearchFault;
 use crate::least::{Least, find_least};
 use crate::rows::table_of;
-use crate::space::{TaskSpace, ZeroFloor};
+use crate::space::{TaskSpace, ZeroFloor, known_task};
 use cost_certificate::CostFound;
 use grd_base::{ActionSet, Bits, GoalId, Limits, OutOfMemory, by_width, whole};
 use search_core::SearchFault;
 use std::alloc::Global;
 use strips_model::{Task, fits, start};
-
-/// What holds of every task holds of this one.
-fn known_task(task: &Task)
-    ensures { IsTask task.now }
-{
-    let _atoms = task.atoms;
-}
 
 /// The cost that was found, with the path as a plan and the rows as a table.
 fn shown_cost<const W: usize>(

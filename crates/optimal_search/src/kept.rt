@@ -1,6 +1,6 @@
 ghost use Rattle.std.specs.Prelude.{◌≡◌, ◌⊎◌, ℕ, ◌<◌, ◌≤◌, List, [], length, All, Some, IfOk, IfErr, slice_get};
 ghost use Rattle.grd_base.specs.Bits.{members};
-ghost use Rattle.optimal_search.specs.Space.{IsOver};
+ghost use Rattle.strips_model.specs.Plans.{IsOver};
 ghost use Rattle.strips_model.specs.Values.{PlainTask};
 ghost use Rattle.optimal_search.specs.Rows.{rows_kept};
 ghost use Rattle.optimal_search.specs.Kept.{IsNumbered, AreNumbered, IsBoundOf, IsRaised, IsRaisedAt, KeepsRows};

@@ -69,7 +69,7 @@ impl<T: Copy, M: Drop> Known<T, M> {
     }
 
     /// No done state lies within `r` steps, as the rows show. The next pass looks further by twice as
-    /// much.
+    /// much and one more.
     fn raise(&mut self, r: u32, rows: Vec<KeptRow<T, M>>)
         requires low { self.old.low ≤ r }
         requires small { r < 1000000 }
@@ -147,8 +147,8 @@ fn pass<S: Space, F: Floor<S>>(
 }
 
 /// How far the nearest done state is from the start, by passes with more and more steps. The floor
-/// shows no number but 0. A pass counts at most `limit` states; where it would count more, no done
-/// state lies within as few steps, and fewer are asked for as long as they may suffice.
+/// shows no number but 0. A pass counts at most `limit` states; where it would count more, the next looks
+/// half as far, down to the fewest steps that are not refuted.
 pub(crate) fn find_least<S: Space, F: Floor<S>>(
     alloc: Global,
     space: &S,

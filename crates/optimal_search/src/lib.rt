@@ -10,6 +10,7 @@ mod rows;
 mod space;
 
 pub use cost::costs;
+pub use cost_certificate::CostFound;
 pub use faults::GoalSearchFault;
 pub use oracle::Oracle;
 

@@ -4,19 +4,17 @@ ghost use Rattle.grd_base.specs.declared.limits.Bound.TheVariants.{Steps};
 ghost use Rattle.grd_base.specs.Bits.{members};
 ghost use Rattle.grd_base.specs.Counts.{MoreThan};
 ghost use Rattle.grd_base.specs.declared.ids.GoalId.{GoalId};
-ghost use Rattle.strips_model.specs.Values.{PlainTask, IsTask};
-ghost use Rattle.strips_model.specs.Plans.{set_of, Reaches, IsCost};
+ghost use Rattle.strips_model.specs.Plans.{set_of, Reaches, IsCost, IsOver};
 ghost use Rattle.cost_certificate.specs.Rows.{PlainRow};
 ghost use Rattle.cost_certificate.specs.Tables.{HasRow, IsRowOver, IsValidTable, Refutes};
-ghost use Rattle.optimal_search.specs.Space.{IsOver};
 ghost use Rattle.optimal_search.specs.Rows.{row_of, rows_kept};
-ghost use Rattle.optimal_search.specs.Reach.{IsWithinSteps, IsReachedWithout};
+ghost use Rattle.strips_model.specs.Reached.{IsWithinSteps, IsReachedWithout};
 ghost use Rattle.optimal_search.specs.Oracles.{IsAlike, HasAllOf, IsSoundOracle, HasStartRow};
 
 use crate::kept::Kept;
 use crate::least::{Least, find_least};
 use crate::rows::row_by_steps;
-use crate::space::{TaskSpace, ZeroFloor};
+use crate::space::{TaskSpace, ZeroFloor, known_task};
 use cost_certificate::{Row, Table, is_enough, rows_refute};
 use grd_base::{ActionId, ActionSet, Bits, Bound, GoalId, Limits, OutOfMemory, whole};
 use search_core::{KeptRow, SearchFault, WithinAnswer, within};
@@ -81,7 +79,8 @@ impl<'t, const W: usize> Oracle<'t, W> {
         })
     }
 
-    /// The least length of a plan without the removed actions, or none where there is no plan.
+    /// The least length of a plan without the removed actions, or none where there is no plan. Each call
+    /// searches from the start anew.
     pub fn cost(&mut self, alloc: Global) -> Result<Option<u32>, SearchFault>
         ensures cost { IfOk result (IsCost self.old.task self.old.goal self.old.removed) }
         ensures start { IfOk result (HasStartRow self.old.task self.new.rows) }
@@ -128,7 +127,7 @@ impl<'t, const W: usize> Oracle<'t, W> {
         Ok(path)
     }
 
-    /// The rows, as a table.
+    /// The rows as a table, all by steps, in the order in which their states were numbered.
     pub fn table(&self, alloc: Global) -> Result<Table, OutOfMemory>
         ensures rows { IfOk result (λ table. table ≡ self.now.rows) }
         ensures sound { IsSoundOracle self.now }
@@ -153,7 +152,7 @@ impl<'t, const W: usize> Oracle<'t, W> {
             → MoreThan self.now.limit (IsReachedWithout self.now.task self.now.goal self.now.removed) }
     {
         let task = self.space.task();
-        well_formed(task);
+        known_task(task);
         let first = start(task);
         whole(&first);
         match find_least(alloc, &self.space, &ZeroFloor, first, self.limit)? {
@@ -182,7 +181,7 @@ impl<'t, const W: usize> Oracle<'t, W> {
         ensures many { result ≡ Err SearchFault.TooManyStates
             → MoreThan self.now.limit (IsWithinSteps self.now.task self.now.removed (members s.now) r) }
     {
-        well_formed(self.space.task());
+        known_task(self.space.task());
         whole(s);
         match within(alloc, &self.space, &ZeroFloor, *s, r, self.limit)? {
             WithinAnswer::Yes(path) => Ok((Some(path), Vec::new(alloc))),
@@ -248,11 +247,4 @@ fn state_at<const W: usize>(states: &StateStore<W>, n: usize) -> Result<&Bits<W>
         Ok(number) => Ok(states.get(number).unwrap()),
         Err(_) => Err(OutOfMemory),
     }
-}
-
-/// What holds of every task holds of this one.
-fn well_formed(task: &Task)
-    ensures { IsTask task.now }
-{
-    let _atoms = task.atoms;
 }

@@ -1,6 +1,6 @@
 ghost use Rattle.std.specs.Prelude.{◌≡◌, ◌*◌, ◌<◌, ◌≤◌, map, All, IfOk};
 ghost use Rattle.grd_base.specs.Bits.{members};
-ghost use Rattle.optimal_search.specs.Space.{IsOver};
+ghost use Rattle.strips_model.specs.Plans.{IsOver};
 ghost use Rattle.optimal_search.specs.Rows.{row_by_steps, row_of};
 
 use cost_certificate::{Row, Table, Why};

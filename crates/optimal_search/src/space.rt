@@ -1,5 +1,6 @@
 ghost use Rattle.std.specs.Prelude.{◌≡◌, ◌*◌, ◌<◌, ◌≤◌, length, IfOk};
 ghost use Rattle.strips_model.specs.Moves.{PlainMoves};
+ghost use Rattle.strips_model.specs.Values.{IsTask};
 
 use grd_base::{ActionId, ActionSet, Bits, Bound, GoalId, OutOfMemory, packed, whole};
 use search_core::{Floor, Space};
@@ -82,6 +83,13 @@ impl<'t, const W: usize> Space for TaskSpace<'t, W> {
         }
         Ok(steps)
     }
+}
+
+/// What holds of every task holds of this one.
+pub(crate) fn known_task(task: &Task)
+    ensures { IsTask task.now }
+{
+    let _atoms = task.atoms;
 }
 
 /// At least no step.

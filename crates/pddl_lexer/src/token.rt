@@ -6,6 +6,7 @@ ghost use Rattle.pddl_lexer.specs.Tokens.{AreTokens, AreSpans, IsFirstBad, kind_
 use crate::faults::LexFault;
 use std::alloc::Global;
 
+/// What a token is: a bracket or a word.
 #[derive(Clone, Copy, Debug, PartialEq, Eq)]
 pub enum TokenKind {
     Open,

@@ -20,6 +20,7 @@ pub struct TreeList {
     pub items: Vec<Item>,
 }
 
+/// What stands in a list.
 #[derive(Drop)]
 #[cycle(tree)]
 pub enum Item {

@@ -74,9 +74,6 @@ goal_of_task t g p plan = elim (cases_lt g.0 (length t.goals)) [
 ]
 
 module _ (t : PlainTask) (vs : List Visit) (depths : List ℕ) (deep : AreDeep t vs depths) where
-  pub at_place : (k : ℕ) (v : Visit) → slice_get vs k ≡ Some v → IsAt vs depths k v.state (length (deep.layered.path k))
-  at_place k v at = record { visit = v; there = at; state = refl; deep = deep.layered.depth k (slice_get_within vs k v at) }
-
   pub depth_is : (k : ℕ) (s : State) (d : ℕ) → IsAt vs depths k s d → d ≡ length (deep.layered.path k)
   depth_is k s d is = some_same d (length (deep.layered.path k)) (sym is.deep ∙ deep.layered.depth k (slice_get_within vs k is.visit is.there))
 

@@ -1,5 +1,5 @@
 -- Look-ups among the visited states.
-use Rattle.std.proofs.Common.{◌≡◌, ℕ, zero, suc, ◌==◌, Bool, true, false, cond, Decides, List, [], ◌∷◌, ◌++◌, length, get_or, refl, sym, ap, ◌∙◌, inl, inr, Option, Some, None, true≢false, arith, ◌≤◌}
+use Rattle.std.proofs.Common.{◌≡◌, ℕ, zero, suc, Bool, true, false, cond, Decides, List, [], ◌∷◌, ◌++◌, length, get_or, refl, sym, ap, ◌∙◌, inl, inr, Option, Some, None, true≢false, arith, ◌≤◌}
 use Rattle.std.specs.Prelude.{slice_get, IfSome, IfNone, position}
 use Rattle.std.specs.Option.{is_some, option_map}
 use Rattle.std.specs.Map.{lookup, keys_of, values_of}
@@ -7,33 +7,14 @@ use Rattle.std.proofs.lemmas.Map.Entries.{place_from_lookup}
 use Rattle.std.proofs.lemmas.List.{map_push, length-map}
 use Rattle.std.proofs.lemmas.List.Quantifiers.{position-Some}
 use Rattle.std.proofs.lemmas.Option.{slice_get-get_or}
-use Rattle.std.proofs.lemmas.Slice.Eq.{slice_eq-Decides}
-use Rattle.std.proofs.lemmas.Bool.Decides.{Decides-eqb}
-use lib.Pointwise.{pointwise}
 use mathlib.Core.Path.{subst}
 use Rattle.grd_base.specs.declared.bits.Bits.{Bits}
 use Rattle.grd_base.specs.Bits.{members}
-use Rattle.grd_base.proofs.BitsLemmas.{same_words}
+use Rattle.grd_base.proofs.SameLemmas.{bits_eq, bits_eq-Decides, same_by_members}
 use Rattle.plain_search.specs.declared.visited.Step.{Step}
 use Rattle.grd_base.specs.Bits.{IsWhole}
 use Rattle.plain_search.specs.Walks.{Visit, visit_of, visits, AreWhole, HasState, IsNoted}
 use Rattle.plain_search.proofs.WalkPlaceLemmas.{pushed_cases, Any-from_at, at_from_Any, at_of_map, map_at}
-
--- `==` of two states
-abbrev pub same_bits : {W : ℕ} → Bits W → Bits W → Bool
-same_bits a b = pointwise ◌==◌ a.words b.words
-
-pub same_bits-Decides : {W : ℕ} (a b : Bits W) → Decides (same_bits a b) (a ≡ b)
-same_bits-Decides {W} a b =
-    let words = slice_eq-Decides Decides-eqb a.words b.words (pointwise ◌==◌ a.words b.words) refl in
-    let whole : List ℕ → Bits W = λ ws. record { words = ws } in
-    (λ h. ap whole (words.0 h), λ e. words.1 (ap (λ (c : Bits W). c.words) e))
-
-pub same_whole : {W : ℕ} (a b : Bits W) → IsWhole a → IsWhole b → members a ≡ members b → a ≡ b
-unfolding members
-same_whole {W} a b wa wb same =
-    let whole : List ℕ → Bits W = λ ws. record { words = ws } in
-    ap whole (same_words W a.words b.words wa.wide wb.wide wa.fits wb.fits same)
 
 pub none_of : {X : Type 0} (o : Option X) → is_some o ≡ false → o ≡ None
 none_of None h = refl
@@ -64,35 +45,35 @@ module _ {W : ℕ} where
       rest true h = absurd (true≢false h)
       rest false h = h
 
-  pub found : (es : List (Bits W × Step)) (s : Bits W) → is_some (lookup (same_bits s) es) ≡ true → HasState (visits es) (members s)
-  found es s is = by (lookup (same_bits s) es) refl is
+  pub found : (es : List (Bits W × Step)) (s : Bits W) → is_some (lookup (bits_eq s) es) ≡ true → HasState (visits es) (members s)
+  found es s is = by (lookup (bits_eq s) es) refl is
     where
-      by : (o : Option Step) → lookup (same_bits s) es ≡ o → is_some o ≡ true → HasState (visits es) (members s)
+      by : (o : Option Step) → lookup (bits_eq s) es ≡ o → is_some o ≡ true → HasState (visits es) (members s)
       by None e h = absurd (true≢false (sym h))
       by (Some v) e h =
-          let p = place_from_lookup (same_bits s) es v e in
-          let same : s ≡ p.1 = (same_bits-Decides s p.1).0 p.3 in
+          let p = place_from_lookup (bits_eq s) es v e in
+          let same : s ≡ p.1 = (bits_eq-Decides s p.1).0 p.3 in
           Any-from_at (λ (x : Visit). x.state ≡ members s) (visits es) p.0 (visit_of (p.1, v)) (map_at visit_of es p.0 (p.1, v) p.2) (ap members (sym same))
 
-  pub absent : (es : List (Bits W × Step)) (s : Bits W) → AreWhole es → IsWhole s → is_some (lookup (same_bits s) es) ≡ false → HasState (visits es) (members s) → ⊥
+  pub absent : (es : List (Bits W × Step)) (s : Bits W) → AreWhole es → IsWhole s → is_some (lookup (bits_eq s) es) ≡ false → HasState (visits es) (members s) → ⊥
   absent es s whole whole_s none has =
       let a = at_from_Any (λ (x : Visit). x.state ≡ members s) (visits es) has in
       let b = at_of_map visit_of es a.0 a.1 a.2 in
       let alike : members b.0.0 ≡ members s = ap (λ (x : Visit). x.state) b.2 ∙ a.3 in
-      let same : b.0.0 ≡ s = same_whole b.0.0 s (whole a.0 b.0 b.1) whole_s alike in
-      true≢false (sym ((same_bits-Decides s b.0.0).1 (sym same)) ∙ missed_at (same_bits s) es none a.0 b.0 b.1)
+      let same : b.0.0 ≡ s = same_by_members b.0.0 s (whole a.0 b.0 b.1) whole_s alike in
+      true≢false (sym ((bits_eq-Decides s b.0.0).1 (sym same)) ∙ missed_at (bits_eq s) es none a.0 b.0 b.1)
 
   -- the place that a look-up gives has the state, and where it gives none the state is not visited
-  pub place_found : (es : List (Bits W × Step)) (s : Bits W) (r : Option ℕ) → r ≡ position (same_bits s) (keys_of es)
+  pub place_found : (es : List (Bits W × Step)) (s : Bits W) (r : Option ℕ) → r ≡ position (bits_eq s) (keys_of es)
       → IfSome r (λ place. option_map (λ (v : Visit). v.state) (slice_get (visits es) place) ≡ Some (members s))
   place_found es s None is = tt
   place_found es s (Some place) is =
-      let p = position-Some (same_bits s) (keys_of es) place s (sym is) in
+      let p = position-Some (bits_eq s) (keys_of es) place s (sym is) in
       let e = at_of_map (λ (x : Bits W × Step). x.0) es place (get_or (keys_of es) place s) (slice_get-get_or (keys_of es) place s p.0) in
-      let same : s ≡ e.0.0 = (same_bits-Decides s e.0.0).0 (ap (same_bits s) e.2 ∙ p.1) in
+      let same : s ≡ e.0.0 = (bits_eq-Decides s e.0.0).0 (ap (bits_eq s) e.2 ∙ p.1) in
       ap (option_map (λ (v : Visit). v.state)) (map_at visit_of es place e.0 e.1) ∙ ap (λ (b : Bits W). Some (members b)) (sym same)
 
-  pub place_none : (es : List (Bits W × Step)) (s : Bits W) (r : Option ℕ) → AreWhole es → IsWhole s → is_some r ≡ is_some (lookup (same_bits s) es)
+  pub place_none : (es : List (Bits W × Step)) (s : Bits W) (r : Option ℕ) → AreWhole es → IsWhole s → is_some r ≡ is_some (lookup (bits_eq s) es)
       → IfNone r (HasState (visits es) (members s) → ⊥)
   place_none es s None whole whole_s is = absent es s whole whole_s (sym is)
   place_none es s (Some place) whole whole_s is = tt

@@ -13,6 +13,7 @@ pub record Visit : Type 0 where
   pub parent : ℕ
   pub action : ActionId
 
+-- the visit of a state with its way back, and those of a list
 abbrev pub visit_of : {W : ℕ} → Bits W × Step → Visit
 visit_of e = record { state = members e.0; parent = e.1.parent; action = e.1.action }
 

@@ -5,8 +5,8 @@ ghost use Rattle.cost_certificate.specs.Found.{PlainCost};
 ghost use Rattle.optimal_search.specs.Costs.{IsRightCost};
 ghost use Rattle.plain_search.specs.Plans.{plan_found};
 
-use cost_certificate::CostFound;
 use grd_base::{ActionId, OutOfMemory};
+use optimal_search::CostFound;
 use std::alloc::Global;
 use strips_model::Task;
 

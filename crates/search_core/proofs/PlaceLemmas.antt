@@ -4,7 +4,7 @@ use Rattle.std.specs.Prelude.{slice_get, Contains}
 use Rattle.std.specs.Map.{values_of}
 use Rattle.std.proofs.lemmas.Bool.{cases_lt}
 use Rattle.std.proofs.lemmas.List.Elements.{Contains-append_right, Contains-get_or}
-use Rattle.std.proofs.lemmas.Option.{none-some, same_Some, slice_get_within}
+use Rattle.std.proofs.lemmas.Option.{none-some, same_Some}
 use Rattle.search_core.specs.Progress.{IsGrown}
 
 -- the element at a place within the list
@@ -47,10 +47,6 @@ grown_none xs = record { added = []; grown = append_nil xs }
 
 pub grown_trans : {X : Type 0} (xs ys zs : List X) → IsGrown xs ys → IsGrown ys zs → IsGrown xs zs
 grown_trans xs ys zs a b = record { added = a.added ++ b.added; grown = b.grown ∙ ap (λ us. us ++ b.added) a.grown ∙ append_assoc xs a.added b.added }
-
--- the only place of a list of one
-pub single_place : {X : Type 0} (xs : List X) (i : ℕ) (x : X) → length xs ≡ 1 → slice_get xs i ≡ Some x → i ≡ 0
-single_place xs i x one got = let h : i < length xs = slice_get_within xs i x got in omega (arith, one)
 
 pub below_cases : (i n : ℕ) → i < n + 1 → (i < n) ⊎ (i ≡ n)
 below_cases i n below = elim (cases_lt i n) [ inl lower ↦ inl lower | inr over ↦ inr (omega arith) ]

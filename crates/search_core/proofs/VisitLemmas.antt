@@ -9,30 +9,8 @@ use Rattle.search_core.specs.declared.found.Way.{Way}
 use Rattle.search_core.specs.Spaces.{Successors}
 use Rattle.search_core.specs.Answers.{IsDonePath}
 use Rattle.search_core.specs.Progress.{Entry, IsHeld, IsHeldBy, IsKept, IsCutOff, IsProgress, IsNew, IsAdded, IsGrown, AreLinked, HaveEarlierParents, IsWay, IsWayOn}
-use Rattle.search_core.specs.Visits.{IsHead, IsStepFrom, AreStepsFrom, IsStep, AreHeldBy, AreExpanded, IsWhole}
-use Rattle.search_core.proofs.PlaceLemmas.{some_at, get_push_old, get_push_new, get_push_cases, get_grown, grown_none, grown_trans, single_place, below_cases}
-
--- nothing is found yet
-module _ {S M : Type 0} (next : Successors S) (is_done : S → Bool) (level : S → Option ℕ) (shows : S → M → Bound → Type 0) (start : S) (r limit : ℕ) where
-  pub progress_none : IsProgress {M = M} next is_done level shows start r limit 0 []
-  progress_none = record {
-    each = λ i e got. absurd (omega (arith, slice_get_within [] i e got));
-    sorted = λ i j e f le at_i at_j. absurd (omega (arith, slice_get_within [] i e at_i));
-    apart = λ i j e f at_i at_j same. absurd (omega (arith, slice_get_within [] i e at_i));
-    kept_is = refl;
-    few = omega arith;
-  }
-
-  pub new_start : (way : Way) → way.depth ≡ 0 → is_done start ≡ false → IsNew {M = M} next is_done start r 0 [] start way
-  new_start way depth not_done = record {
-    fresh = λ held. absurd (omega (arith, slice_get_within [] held.place held.entry held.at));
-    one_more = omega (arith, depth);
-    not_done = λ near. not_done;
-    earlier = omega (arith, depth);
-    deepest = λ i e got. absurd (omega (arith, slice_get_within [] i e got));
-    first = λ empty. (refl, depth);
-    later = λ above. absurd (omega arith);
-  }
+use Rattle.search_core.specs.Visits.{IsHead, IsStepFrom, AreStepsFrom, IsStep, AreHeldBy, AreExpanded}
+use Rattle.search_core.proofs.PlaceLemmas.{some_at, get_push_old, get_push_new, get_push_cases, get_grown, grown_none, grown_trans, below_cases}
 
 module _ {S M : Type 0} (next : Successors S) (is_done : S → Bool) (level : S → Option ℕ) (shows : S → M → Bound → Type 0) (start : S) (r limit kept : ℕ) (xs : List (Entry S M)) (p : IsProgress next is_done level shows start r limit kept xs) where
   pub linked_of : AreLinked next start xs
@@ -47,9 +25,6 @@ module _ {S M : Type 0} (next : Successors S) (is_done : S → Bool) (level : S 
         let Q : ℕ → Type 0 = λ d. IsKept next level start r kept head.entry.0 d in
         subst Q head.depth_is
         (MatchOption-at_none (IsKept next level start r kept head.entry.0 head.entry.1.way.depth) (IsCutOff shows r kept head.entry.0 head.entry.1.way.depth head.entry.1.bound) head.kept (p.each place head.entry head.at).verdict)
-
-    pub depth_near : depth ≤ r
-    depth_near = kept_here.near
 
     pub depth_below_limit : depth < limit
     depth_below_limit = omega (arith, kept_here.earlier, p.few)
@@ -129,12 +104,6 @@ pub record IsSpreading {S M : Type 0} (next : Successors S) (is_done : S → Boo
   pub held : AreHeldBy new (depth + 1) done
 
 module _ {S M : Type 0} (next : Successors S) (is_done : S → Bool) (level : S → Option ℕ) (shows : S → M → Bound → Type 0) (start : S) (r limit kept : ℕ) (old : List (Entry S M)) (place depth : ℕ) where
-  pub spread_none : IsProgress next is_done level shows start r limit kept old → IsHead old place depth → IsSpreading next is_done level shows start r limit kept kept old old place depth []
-  spread_none p head = record {
-    step = record { progress = p; more = omega arith; grown = grown_none old; head = head };
-    held = λ k d below. absurd (omega arith);
-  }
-
   -- a step of the old entry at the place is one of the new entry there
   pub spread_step : (now : ℕ) (new : List (Entry S M)) (done steps : List (ActionId × S)) (step : ActionId × S) → IsHead old place depth → IsSpreading next is_done level shows start r limit kept now old new place depth done
       → AreStepsFrom next old place steps → Contains steps step → IsStepFrom next new place step
@@ -161,17 +130,6 @@ pub record IsExploring {S M : Type 0} (next : Successors S) (is_done : S → Boo
   pub deepest : (e f : Entry S M) (i : ℕ) → slice_get entries place ≡ Some e → slice_get entries i ≡ Some f → f.1.way.depth ≤ e.1.way.depth + 1
 
 module _ {S M : Type 0} (next : Successors S) (is_done : S → Bool) (level : S → Option ℕ) (shows : S → M → Bound → Type 0) (start : S) (r limit : ℕ) where
-  pub explore_none : (kept : ℕ) (xs : List (Entry S M)) → IsProgress next is_done level shows start r limit kept xs → length xs ≡ 1 → IsExploring next is_done level shows start r limit kept xs 0
-  explore_none kept xs p one = record {
-    progress = p;
-    some = omega (arith, one);
-    expanded = λ i e below. absurd (omega (arith, below));
-    deepest = λ e f i at_e at_f.
-        let P : ℕ → Type 0 = λ n. slice_get xs n ≡ Some f in
-        let same : e ≡ f = same_Some _ _ (sym at_e ∙ subst P (single_place xs i f one at_f) at_f) in
-        let deep : e.1.way.depth ≡ f.1.way.depth = ap (λ (g : Entry S M). g.1.way.depth) same in omega (arith, deep);
-  }
-
   pub head_of : (kept : ℕ) (xs : List (Entry S M)) (place : ℕ) (e : Entry S M) → IsExploring next is_done level shows start r limit kept xs place → slice_get xs place ≡ Some e → e.1.mark ≡ None → IsHead xs place e.1.way.depth
   head_of kept xs place e x got none = record { entry = e; at = got; depth_is = refl; kept = none; deepest = λ i f at_f. x.deepest e f i got at_f }
 
@@ -211,6 +169,3 @@ module _ {S M : Type 0} (next : Successors S) (is_done : S → Bool) (level : S 
         let up : e.1.way.depth ≤ f.1.way.depth = s.0.progress.sorted place (place + 1) e f (omega arith) (get_grown mid new s.0.grown place e got) at_f in
         let near : h.1.way.depth ≤ e.1.way.depth + 1 = s.0.head.deepest i h at_h in omega arith;
   }
-
-  pub explore_end : (kept : ℕ) (xs : List (Entry S M)) (place : ℕ) → length xs ≤ place → IsExploring next is_done level shows start r limit kept xs place → IsWhole next is_done level shows start r limit kept xs
-  explore_end kept xs place over x = record { progress = x.progress; some = x.some; expanded = λ i e below. x.expanded i e (omega arith) }

@@ -125,5 +125,6 @@ pub record IsWay {S M : Type 0} (next : Successors S) (start : S) (entry : Entry
   pub leads : IsPath next start path end
   pub long : length path ≡ entry.1.way.depth + 1
 
+-- where the entry at the place has a step by this action, the path is its way and that step
 abbrev pub IsWayOn : {S M : Type 0} → Successors S → S → List (Entry S M) → ℕ → ActionId → List ActionId → Type 0
 IsWayOn {S} {M} next start entries place last path = (e : Entry S M) (end : S) → slice_get entries place ≡ Some e → Contains (next e.0) (last, end) → IsWay next start e path end

@@ -1,15 +1,12 @@
 -- Lists of states as an index set keeps them.
-use Rattle.std.proofs.Common.{◌≡◌, ℕ, ◌+◌, ◌==◌, Bool, true, false, not, cond, ◌||◌, Decides, List, [], ◌∷◌, ◌++◌, length, refl, sym, ap, subst, ◌∙◌, inl, inr, true≢false, arith, Contains}
+use Rattle.std.proofs.Common.{◌≡◌, ℕ, ◌+◌, Bool, true, false, not, cond, ◌||◌, Decides, List, [], ◌∷◌, ◌++◌, length, refl, sym, subst, ◌∙◌, inl, inr, true≢false, arith, Contains}
 use Rattle.std.specs.List.{All, list_any, IsDistinct, position_or_len}
-use Rattle.std.proofs.lemmas.Bool.Decides.{Decides-eqb}
 use Rattle.std.proofs.lemmas.List.Elements.{All-get_or, All-push}
 use Rattle.std.proofs.lemmas.Map.Made.{AllPairs-from_IsDistinct, is_member-Decides}
-use Rattle.std.proofs.lemmas.Slice.Eq.{slice_eq-Decides}
 use Rattle.indexmap.specs.IndexSet.{insert_key}
-use lib.Pointwise.{pointwise}
 use Rattle.grd_base.specs.declared.bits.Bits.{Bits}
 use Rattle.grd_base.specs.Bits.{members, IsWhole}
-use Rattle.grd_base.proofs.BitsLemmas.{same_words}
+use Rattle.grd_base.proofs.SameLemmas.{bits_eq, bits_eq-Decides, same_by_members}
 use Rattle.state_store.specs.Store.{AreDistinct, IsNumbered, IsStore}
 
 -- a test that no element passes has its first place past the end
@@ -35,27 +32,11 @@ numbered_by {S} eq decides old new s n is at = by (list_any (eq s) old) refl is
     by false held more = inr (λ there. true≢false (sym (has.1 there) ∙ held), more, at ∙ past_all (eq s) old held)
 
 module _ {W : ℕ} where
-  -- `==` of two states
-  abbrev pub bits_eq : Bits W → Bits W → Bool
-  bits_eq a b = pointwise ◌==◌ a.words b.words
-
-  pub bits_eq-Decides : (a b : Bits W) → Decides (bits_eq a b) (a ≡ b)
-  bits_eq-Decides a b =
-      let words = slice_eq-Decides Decides-eqb a.words b.words (bits_eq a b) refl in
-      let state : List ℕ → Bits W = λ ws. record { words = ws } in
-      (λ same. ap state (words.0 same), λ e. words.1 (ap (λ (c : Bits W). c.words) e))
-
-  same_states : (a b : Bits W) → IsWhole a → IsWhole b → members a ≡ members b → a ≡ b
-  unfolding members
-  same_states a b whole_a whole_b same =
-      let state : List ℕ → Bits W = λ ws. record { words = ws } in
-      ap state (same_words W a.words b.words whole_a.wide whole_b.wide whole_a.fits whole_b.fits same)
-
   -- different states have different members
   distinct_members : (states : List (Bits W)) → All IsWhole states → IsDistinct bits_eq states → AreDistinct states
   distinct_members states whole unique i j d before within same =
       AllPairs-from_IsDistinct bits_eq-Decides states unique i j d before within
-      (same_states _ _ (All-get_or IsWhole states i d (omega arith) whole) (All-get_or IsWhole states j d within whole) same)
+      (same_by_members _ _ (All-get_or IsWhole states i d (omega arith) whole) (All-get_or IsWhole states j d within whole) same)
 
   -- a whole state is inserted
   pub store_more : (old new : List (Bits W)) (s : Bits W) → IsStore old → IsWhole s → new ≡ insert_key bits_eq old s → IsDistinct bits_eq new → IsStore new

@@ -1,6 +1,6 @@
 pub mod StepLemmas
 pub mod EmbedLemmas
 pub mod MoveLemmas
-pub mod StateLemmas
+pub mod AtomLists
 mod ListLemmas
 mod Examples

@@ -1,6 +1,6 @@
 -- Rising lists of atoms and the sets of their atoms.
 use Rattle.std.proofs.Common.{◌≡◌, ℕ, ◌+◌, ◌<◌, ◌≤◌, Bool, true, false, ◌||◌, eqb, List, [], ◌∷◌, ◌++◌, refl, sym, ◌∙◌, ap, inl, inr, arith}
-use mathlib.Core.Path.{fun_ext, ap₂}
+use mathlib.Core.Path.{ap₂}
 use Rattle.std.specs.List.{AllByRecursion}
 use Rattle.std.proofs.lemmas.Bool.{cases_eq, cases_lt, false≢true, or_parts, eq-eqb, ne_eqb}
 use Rattle.grd_base.specs.declared.ids.AtomId.{AtomId}
@@ -64,9 +64,3 @@ told_other s n xs told other = record {
   none = λ m le. told.none m (omega arith);
   rising = told.rising;
 }
-
-pub told_all : (s : State) (n : ℕ) (xs : List AtomId) → Told s n xs → ((m : ℕ) → n ≤ m → s m ≡ false) → set_of xs ≡ s
-told_all s n xs told past = fun_ext (λ m. elim (cases_lt m n) as (λ _. set_of xs m ≡ s m) [
-  | inl below ↦ told.same m below
-  | inr from ↦ told.none m from ∙ sym (past m from)
-])

@@ -14,6 +14,10 @@ use Rattle.strips_model.specs.Values.{GroundAction, Goal, PlainTask}
 abbrev pub State : Type 0
 State = Set
 
+-- the state has atoms of the task alone
+abbrev pub IsOver : PlainTask → State → Type 0
+IsOver t s = (n : ℕ) → t.atoms ≤ n → s n ≡ false
+
 -- the set of the atoms of a list
 abbrev pub set_of : List AtomId → State
 set_of xs n = list_any (λ a. a.0 == n) xs

@@ -21,6 +21,7 @@ pub fn contains_all<const W: usize>(s: &Bits<W>, atoms: &[AtomId]) -> bool
     true
 }
 
+/// Makes the atoms true.
 pub(crate) fn insert_all<const W: usize>(s: &mut Bits<W>, atoms: &[AtomId])
     requires width { W ≤ 64 }
     requires atoms { All (λ a. a.0 < 64 * W) atoms.now }
@@ -31,6 +32,7 @@ pub(crate) fn insert_all<const W: usize>(s: &mut Bits<W>, atoms: &[AtomId])
     }
 }
 
+/// Makes the atoms false.
 fn remove_all<const W: usize>(s: &mut Bits<W>, atoms: &[AtomId])
     requires width { W ≤ 64 }
     requires atoms { All (λ a. a.0 < 64 * W) atoms.now }

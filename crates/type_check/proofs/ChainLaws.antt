@@ -187,20 +187,10 @@ module _ (parents : List (Option ℕ)) where
   pub end_here : (k : ℕ) → parent_at parents k ≡ None → Ends parents k
   end_here k up = (1, ap (option_and_then (climb parents 0)) up)
 
-  pub end_behind : (k p : ℕ) → Ends parents k → parent_at parents k ≡ Some p → Ends parents p
-  end_behind k p end up = by end.0 end.1
-    where
-      by : (n : ℕ) → climb parents n k ≡ None → Ends parents p
-      by zero h = absurd (none-some k (sym h))
-      by (suc n) h = (n, sym (ap (option_and_then (climb parents n)) up) ∙ h)
-
   -- the second has not been met in so many steps
   module _ (j k : ℕ) where
     abbrev pub IsUnmet : ℕ → Type 0
     IsUnmet n = (m : ℕ) → m < n → climb parents m j ≡ Some k → ⊥
-
-    pub unmet_none : IsUnmet 0
-    unmet_none m fewer h = absurd (omega (arith, fewer))
 
     pub unmet_more : (n x : ℕ) → IsUnmet n → climb parents n j ≡ Some x → (x ≡ k → ⊥) → IsUnmet (n + 1)
     unmet_more n x unmet here differs m fewer h = by (cases_lt m n)

@@ -240,6 +240,3 @@ module _ (text : List ℕ) (p : PlainProblem) (h : IsProblemText text p) where
 
   pub few_objects : length p.objects ≤ length text
   few_objects = few_of_problem objects_in few_objects_in p.objects h.is_problem.objects
-
-  pub few_init : length p.init ≤ length text
-  few_init = few_of_problem init_in few_init_in p.init h.is_problem.init

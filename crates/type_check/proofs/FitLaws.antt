@@ -20,23 +20,10 @@ module _ (P : List ℕ → Type 0) (words : List Word) where
   some : Word
   some = record { text = []; at = 0 }
 
-  pub found_one : (i : ℕ) (w : Word) → i < length words → w ≡ get_or words i w → P w.text → Any P (texts words)
-  found_one i w less is h =
-      (i, w.text, omega (arith, less, length-map words (λ (v : Word). v.text)), text-at i w.text w less ∙ ap (λ (v : Word). v.text) (sym is), h)
-
   pub none_found : NoneBefore (length words) → Any P (texts words) → ⊥
   none_found none (k, t, less, is, h) =
       let shorter : k < length words = omega (arith, less, length-map words (λ (v : Word). v.text)) in
       none k some shorter (subst P (sym is ∙ text-at k t some shorter) h)
-
-  pub none_more : (i : ℕ) (w : Word) → i < length words → w ≡ get_or words i w → NoneBefore i → (P w.text → ⊥) → NoneBefore (i + 1)
-  none_more i w less is none not k d within h = by (cases_lt k i)
-    where
-      by : (k < i) ⊎ (i ≤ k) → ⊥
-      by (inl before) = none k d before h
-      by (inr here) =
-          let same : k ≡ i = omega (arith, here, within) in
-          not (subst P (ap (λ j. (get_or words j d).text) same ∙ ap (λ (v : Word). v.text) (get_or_default words i d w less ∙ sym is)) h)
 
   pub each_found : EachBefore (length words) → All P (texts words)
   each_found each k t less =

@@ -53,12 +53,6 @@ pub record HasPlace (d : PlainDomain) (types : List Word) (objects : List PlainT
   pub fit : (k : ℕ) → Contains place k ↔ FitAt d types objects k
 
 module _ (d : PlainDomain) (types : List Word) where
-  pub no_place : HasPlace d types [] []
-  no_place = record {
-    rises = tt;
-    fit = λ k. (λ h. absurd (omega (arith, h.1)), λ h. absurd (none-some h.0 h.1));
-  }
-
   module _ (objects : List PlainTypedName) (o : PlainTypedName) (place : List ℕ) (has : HasPlace d types objects place) where
     below : (k : ℕ) → Contains place k → k < length objects
     below k h = let at = (has.fit k).0 h in slice_get_within objects k at.0 at.1

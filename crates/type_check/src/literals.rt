@@ -156,6 +156,7 @@ impl<'s, 'a> Scope<'s, 'a> {
         })
     }
 
+    /// The literals by numbers, in their order.
     pub(crate) fn typed_literals(
         &self,
         alloc: Global,
@@ -188,6 +189,7 @@ impl<'s, 'a> Scope<'s, 'a> {
         }
     }
 
+    /// The objects that the terms name, where there are no parameters.
     fn objects_of(
         &self,
         alloc: Global,
@@ -224,6 +226,7 @@ impl<'s, 'a> Scope<'s, 'a> {
         })
     }
 
+    /// The atoms by numbers, in their order.
     pub(crate) fn ground_atoms(
         &self,
         alloc: Global,

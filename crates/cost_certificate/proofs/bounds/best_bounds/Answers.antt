@@ -1,5 +1,6 @@
 use Rattle.std.proofs.Common.{take, arith}
-use Rattle.cost_certificate.proofs.BoundLemmas.{best_none, take_next}
+use Rattle.grd_base.proofs.ListLemmas.{take_next}
+use Rattle.cost_certificate.proofs.BoundLemmas.{best_none}
 use Rattle.cost_certificate.proofs.bounds.best_bounds.Goals as goal
 
 pub loop-row-init : goal.loop-row-init

@@ -1,6 +1,6 @@
 use Rattle.std.proofs.Common.{sym}
 use Rattle.std.proofs.lemmas.Bool.{false≢true}
-use Rattle.strips_model.proofs.StateLemmas.{bits_eq, bits_eq-Decides}
+use Rattle.grd_base.proofs.SameLemmas.{bits_eq, bits_eq-Decides}
 use Rattle.cost_certificate.specs.Tables.{IsAtMost}
 use Rattle.cost_certificate.proofs.EntryLemmas.{looked_up, looked_in_vain}
 use Rattle.cost_certificate.proofs.bounds.has_bound.Goals as goal

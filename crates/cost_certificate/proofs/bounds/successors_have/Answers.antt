@@ -1,11 +1,11 @@
 use Rattle.std.proofs.Common.{List, get_or, take, rules, refl, sym, ◌∙◌, subst}
 use Rattle.std.specs.Prelude.{All, Contains}
 use Rattle.std.proofs.lemmas.Bool.{false≢true}
-use Rattle.std.proofs.lemmas.List.{take_all}
+use Rattle.std.proofs.lemmas.List.{take_all, take_more}
 use Rattle.std.proofs.lemmas.List.Elements.{All-nil, All-push, Contains-get_or}
 use Rattle.grd_base.specs.declared.ids.ActionId.{ActionId}
 use Rattle.grd_base.specs.Bits.{members}
-use Rattle.cost_certificate.proofs.BoundLemmas.{HasNext, all_next, take_more}
+use Rattle.cost_certificate.proofs.BoundLemmas.{HasNext, all_next}
 use Rattle.cost_certificate.proofs.bounds.successors_have.Goals as goal
 
 pub loop-a-init : goal.loop-a-init

@@ -4,7 +4,8 @@ use Rattle.std.proofs.lemmas.Bool.{false≢true}
 use Rattle.std.proofs.lemmas.List.{take_all}
 use Rattle.std.proofs.lemmas.List.Elements.{All-nil, All-push}
 use Rattle.cost_certificate.specs.Rows.{PlainRow}
-use Rattle.cost_certificate.proofs.BoundLemmas.{HasNeeds, take_next}
+use Rattle.grd_base.proofs.ListLemmas.{take_next}
+use Rattle.cost_certificate.proofs.BoundLemmas.{HasNeeds}
 use Rattle.cost_certificate.proofs.FamilyLemmas.{first_bad}
 use Rattle.cost_certificate.proofs.bounds.unsupported_row.Goals as goal
 

@@ -1,7 +1,7 @@
 use Rattle.std.proofs.Common.{sym, subst}
 use Rattle.std.specs.Prelude.{All}
 use Rattle.grd_base.specs.Bits.{members}
-use Rattle.optimal_search.specs.Space.{IsOver}
+use Rattle.strips_model.specs.Plans.{IsOver}
 use Rattle.optimal_search.specs.Rows.{rows_kept}
 use Rattle.optimal_search.specs.Kept.{KeepsRows}
 use Rattle.optimal_search.proofs.KeptLemmas.{raised_keeps}

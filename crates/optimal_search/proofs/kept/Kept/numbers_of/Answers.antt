@@ -2,9 +2,10 @@ use Rattle.std.proofs.Common.{◌≡◌, take, get_or, sym, ◌∙◌, subst}
 use Rattle.std.specs.Prelude.{All}
 use Rattle.std.proofs.lemmas.List.Elements.{All-take}
 use Rattle.grd_base.specs.Bits.{members}
-use Rattle.optimal_search.specs.Space.{IsOver}
+use Rattle.strips_model.specs.Plans.{IsOver}
 use Rattle.optimal_search.proofs.KeptLemmas.{AreTaken}
-use Rattle.optimal_search.proofs.TakenLemmas.{take_next, same_rows, still_over, taken_more}
+use Rattle.grd_base.proofs.ListLemmas.{take_next}
+use Rattle.optimal_search.proofs.TakenLemmas.{same_rows, still_over, taken_more}
 use Rattle.optimal_search.proofs.kept.Kept.numbers_of.Goals as goal
 
 pub returns-in_err-number_of-clause-same : goal.returns-in_err-number_of-clause-same

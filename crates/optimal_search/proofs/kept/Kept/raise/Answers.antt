@@ -5,7 +5,7 @@ use Rattle.grd_base.specs.declared.bits.Bits.{Bits}
 use Rattle.search_core.specs.declared.rows.KeptRow.{KeptRow}
 use Rattle.optimal_search.specs.Kept.{IsRaised, IsRaisedAt}
 use Rattle.optimal_search.proofs.KeptLemmas.{raised_more}
-use Rattle.optimal_search.proofs.TakenLemmas.{take_next}
+use Rattle.grd_base.proofs.ListLemmas.{take_next}
 use Rattle.optimal_search.proofs.kept.Kept.raise.Goals as goal
 
 pub raise_to-requires : goal.raise_to-requires

@@ -3,7 +3,8 @@ use Rattle.std.proofs.lemmas.Bool.{false≢true}
 use Rattle.std.specs.Prelude.{slice_get}
 use Rattle.std.proofs.lemmas.Option.{slice_get_read}
 use Rattle.cost_certificate.specs.Tables.{IsAtMost}
-use Rattle.optimal_search.proofs.KeptLemmas.{at_most_other, some_bound, set_raised, stays_raised, not_there}
+use Rattle.cost_certificate.proofs.OrderLemmas.{at_most_other}
+use Rattle.optimal_search.proofs.KeptLemmas.{some_bound, set_raised, stays_raised, not_there}
 use Rattle.optimal_search.proofs.kept.Kept.raise_to.Goals as goal
 
 pub returns-then-not-is_enough-clause-raised : goal.returns-then-not-is_enough-clause-raised

@@ -3,7 +3,7 @@ use Rattle.std.proofs.Common.{◌≡◌, arith, ℕ, Some, None, length, ap, ◌
 use Rattle.grd_base.specs.Counts.{MoreThan}
 use Rattle.strips_model.specs.Values.{IsTask}
 use Rattle.strips_model.specs.Plans.{start_of}
-use Rattle.optimal_search.specs.Reach.{IsReachedWithout}
+use Rattle.strips_model.specs.Reached.{IsReachedWithout}
 use Rattle.optimal_search.specs.Oracles.{PlainOracle}
 use Rattle.optimal_search.proofs.AskLaws.{AreOfCost, asked, start_state, too_many, path_rows, never_rows, passed_on}
 use Rattle.optimal_search.proofs.oracle.Oracle.find_cost.Goals as goal
@@ -14,7 +14,7 @@ returns-in_err-plan-clause-many g c = λ e.
     let task = o.space.moves.task in
     let first = c.start-first.result in
     let Many : PlainOracle → Type 0 = λ x. MoreThan x.limit (IsReachedWithout x.task x.goal x.removed) in
-    let is : IsTask task = subst IsTask c.task-task.ensures c.well_formed-2.ensures in
+    let is : IsTask task = subst IsTask c.task-task.ensures c.known_task.ensures in
     let same = c.start-first.ensures ∙ ap start_of c.task-task.ensures in
     let error = c.from_residual in
     subst Many c.self.view_is (too_many task o.space.goal o.space.moves.removed is c.self.invariant.0.atoms first (start_state task first is c.whole.ensures same) o.limit same
@@ -27,7 +27,7 @@ by_path g c =
     let task = o.space.moves.task in
     let first = c.start-first.result in
     let Found : PlainOracle → Type 0 = λ x. AreOfCost x (Some c.len.result) c.in-Path.rows.items in
-    let is : IsTask task = subst IsTask c.task-task.ensures c.well_formed-2.ensures in
+    let is : IsTask task = subst IsTask c.task-task.ensures c.known_task.ensures in
     let same = c.start-first.ensures ∙ ap start_of c.task-task.ensures in
     let least = rw c.in-Path.is at c.in_ok-plan.ensures.least in
     let long : length c.in-Path.plan.items ≡ c.len.result = omega (arith, c.len.ensures, c.in-Path.plan.ok.0) in
@@ -54,7 +54,7 @@ by_none g c =
     let task = o.space.moves.task in
     let first = c.start-first.result in
     let Found : PlainOracle → Type 0 = λ x. AreOfCost x None c.in-Nowhere.rows.items in
-    let is : IsTask task = subst IsTask c.task-task.ensures c.well_formed-2.ensures in
+    let is : IsTask task = subst IsTask c.task-task.ensures c.known_task.ensures in
     let same = c.start-first.ensures ∙ ap start_of c.task-task.ensures in
     let least = rw c.in-Nowhere.is at c.in_ok-plan.ensures.least in
     let found = never_rows task o.space.goal o.space.moves.removed is c.self.invariant.0.atoms first (start_state task first is c.whole.ensures same) o.limit c.in-Nowhere.rows.items same least.0 least.1 least.2 least.3 in

@@ -3,9 +3,8 @@ use Rattle.std.proofs.Common.{sym, subst}
 use Rattle.grd_base.specs.Bits.{members}
 use Rattle.grd_base.specs.Counts.{MoreThan}
 use Rattle.strips_model.specs.Values.{IsTask}
-use Rattle.strips_model.specs.Plans.{Reaches}
-use Rattle.optimal_search.specs.Space.{IsOver}
-use Rattle.optimal_search.specs.Reach.{IsWithinSteps}
+use Rattle.strips_model.specs.Plans.{Reaches, IsOver}
+use Rattle.strips_model.specs.Reached.{IsWithinSteps}
 use Rattle.optimal_search.specs.Oracles.{PlainOracle}
 use Rattle.optimal_search.proofs.SpaceLaws.{IsState, more_within}
 use Rattle.optimal_search.proofs.AskLaws.{RefuteWithin, path_reaches, no_rows, passed_on}
@@ -18,7 +17,7 @@ returns-in_err-path-clause-many g c = λ e.
     let removed = o.space.moves.removed in
     let Over : PlainOracle → Type 0 = λ x. IsOver x.task (members c.args.s.now) in
     let Many : PlainOracle → Type 0 = λ x. MoreThan x.limit (IsWithinSteps x.task x.removed (members c.args.s.now) c.args.r) in
-    let is : IsTask task = subst IsTask c.task.ensures c.well_formed-2.ensures in
+    let is : IsTask task = subst IsTask c.task.ensures c.known_task.ensures in
     let state : IsState task c.args.s.now = record { whole = c.whole.ensures; over = subst Over (sym c.self.view_is) c.requires } in
     let error = c.from_residual in
     subst Many c.self.view_is (more_within task removed is c.self.invariant.0.atoms c.args.s.now c.args.r o.limit state (c.in_err-path.ensures.many (passed_on error.result _ _ error.ensures.1 e)))
@@ -29,7 +28,7 @@ returns-in-Yes-clause-path g c =
     let task = o.space.moves.task in
     let Over : PlainOracle → Type 0 = λ x. IsOver x.task (members c.args.s.now) in
     let Reached : PlainOracle → Type 0 = λ x. Reaches x.task x.goal x.removed (members c.args.s.now) c.in-Yes.path.items in
-    let is : IsTask task = subst IsTask c.task.ensures c.well_formed-2.ensures in
+    let is : IsTask task = subst IsTask c.task.ensures c.known_task.ensures in
     let state : IsState task c.args.s.now = record { whole = c.whole.ensures; over = subst Over (sym c.self.view_is) c.requires } in
     let path = c.in-Yes.path.items in
     let done = rw c.in-Yes.is at c.in_ok-path.ensures.right in
@@ -42,7 +41,7 @@ found g c =
     let task = o.space.moves.task in
     let Over : PlainOracle → Type 0 = λ x. IsOver x.task (members c.args.s.now) in
     let Refuted : PlainOracle → Type 0 = λ x. RefuteWithin x c.args.s.now c.args.r c.in-No.rows.items in
-    let is : IsTask task = subst IsTask c.task.ensures c.well_formed-2.ensures in
+    let is : IsTask task = subst IsTask c.task.ensures c.known_task.ensures in
     let state : IsState task c.args.s.now = record { whole = c.whole.ensures; over = subst Over (sym c.self.view_is) c.requires } in
     let rows = no_rows task o.space.goal o.space.moves.removed is c.self.invariant.0.atoms c.args.s.now state o.limit c.args.r c.in_ok-path.field-0 c.in-No.rows c.in-No.is
     c.in_ok-path.ensures.refuted c.in_ok-path.ensures.start c.in_ok-path.ensures.counted in

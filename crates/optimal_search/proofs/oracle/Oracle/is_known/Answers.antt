@@ -8,7 +8,7 @@ use Rattle.grd_base.specs.declared.limits.Bound.TheVariants.{Steps}
 use Rattle.grd_base.specs.Bits.{members}
 use Rattle.cost_certificate.specs.Rows.{PlainRow}
 use Rattle.cost_certificate.specs.Tables.{HasRow}
-use Rattle.optimal_search.specs.Space.{IsOver}
+use Rattle.strips_model.specs.Plans.{IsOver}
 use Rattle.optimal_search.specs.Rows.{rows_kept}
 use Rattle.optimal_search.specs.Kept.{IsBoundOf}
 use Rattle.optimal_search.specs.Oracles.{PlainOracle}

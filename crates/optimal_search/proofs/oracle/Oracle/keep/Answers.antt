@@ -3,7 +3,7 @@ use Rattle.std.proofs.Common.{map, sym, subst}
 use Rattle.std.specs.Prelude.{All, IfOk}
 use Rattle.grd_base.specs.Bits.{members}
 use Rattle.cost_certificate.specs.Tables.{IsValidTable}
-use Rattle.optimal_search.specs.Space.{IsOver}
+use Rattle.strips_model.specs.Plans.{IsOver}
 use Rattle.optimal_search.specs.Rows.{row_of, rows_kept}
 use Rattle.optimal_search.specs.Oracles.{PlainOracle, HasAllOf}
 use Rattle.optimal_search.proofs.KeptLaws.{added_of, held_of, added_old, added_valid}

@@ -1,4 +1,5 @@
-use Rattle.state_store.proofs.StoreLemmas.{bits_eq, bits_eq-Decides, numbered_by, store_more}
+use Rattle.grd_base.proofs.SameLemmas.{bits_eq, bits_eq-Decides}
+use Rattle.state_store.proofs.StoreLemmas.{numbered_by, store_more}
 use Rattle.state_store.proofs.store.StateStore.number_of.Goals as goal
 
 pub invariant_of-self-2 : goal.invariant_of-self-2
