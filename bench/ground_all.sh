@@ -1,5 +1,5 @@
 #!/usr/bin/env bash
-# Times the grounding of about a million typed instances by the built program, and shows the most memory
+# Times the grounding of up to a million typed instances by the built program, and shows the most memory
 # that was held: `cost` is asked for a goal that holds at the start, so that next to nothing is searched.
 # grid: cells in a square, and one action of two cells; few instances are not blocked.
 # triples: one action of three objects of any type; no instance is blocked.

@@ -1,8 +1,8 @@
 #!/usr/bin/env bash
 # Times `cost` and `wcd` on made tasks of growing size, whose numbers of states are known:
 # a chain of places, switches that are turned on in any order, and a grid of cells.
-# `cost` is asked for a goal that no plan reaches, so that it visits every state once. `wcd` is asked
-# for two goals, one of them as far away as any state is.
+# `cost` is asked for a goal that no plan reaches, so that its last pass visits every state, after passes
+# over the states near the start. `wcd` is asked for two goals, one of them as far away as any state is.
 # Each line: the task, its states and actions, then for each command the seconds, and the
 # microseconds for each state, and for `cost` the most memory that it had, in MiB. That number is never
 # below what the measuring Python had itself, some 15 MiB, so it tells of the larger tasks alone.
