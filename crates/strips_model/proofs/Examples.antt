@@ -1,7 +1,7 @@
 -- The definitions on worked examples, computed. Fork: from at0 by a and b to at2, and from there by
 -- l to the left end atl or by r to the right end atr. Keep: its one action deletes and adds the same
 -- atom. Doors: one of two doors is open for good, and the other shut.
-use Rattle.std.specs.Prelude.{◌≡◌, ℕ, Bool, true, false, nat_eq, codes, List, [], ◌∷◌, map, Option, Some, None, refl}
+use Rattle.std.specs.Prelude.{◌≡◌, ℕ, zero, suc, ◌<◌, Bool, true, false, nat_eq, codes, List, [], ◌∷◌, map, Option, Some, None, refl}
 use Rattle.std.specs.Option.{option_map}
 use Rattle.std.specs.Cmp.Lexicographic.{pointwise}
 use Rattle.std.proofs.Common.{inl, inr, arith, rules}
@@ -11,6 +11,7 @@ use Rattle.grd_base.specs.declared.ids.GoalId.{GoalId}
 use Rattle.strips_model.specs.Values.{PlainTask, GroundAction}
 use Rattle.strips_model.specs.Cuts.{cut}
 use Rattle.strips_model.specs.Plans.{State, set_of, is_step, step, step_without, after, goal_holds, start_of, IsCost, Embeds}
+use Rattle.strips_model.specs.Levels.{after_rounds, grown, IsLevel}
 use Rattle.strips_model.specs.Worlds.{Instance, World, task_of}
 
 -- atoms by their names, as bytes
@@ -137,6 +138,32 @@ before_the_ends_is_left_by_both = refl
 removed_action_is_in_no_cut : cut_of (b ∷ []) (atom 0 ∷ atom 1 ∷ []) ≡ false ∷ false ∷ false ∷ false ∷ false ∷ []
 unfolding cut
 removed_action_is_in_no_cut = refl
+
+-- which of the first five atoms are in the set after some rounds from the start
+abbrev grown_to : List ActionId → ℕ → Option (List Bool)
+grown_to removed k = seen (Some (after_rounds fork_task removed (start_of fork_task) k))
+
+nothing_is_deleted_in_a_round : grown_to [] 1 ≡ Some (true ∷ true ∷ false ∷ false ∷ false ∷ [])
+unfolding after_rounds grown
+nothing_is_deleted_in_a_round = refl
+
+left_is_at_level_3 : IsLevel fork_task (goal 0) [] (start_of fork_task) (Some 3)
+unfolding after_rounds grown
+left_is_at_level_3 = (refl, before)
+  where
+    before : (k : ℕ) → k < 3 → goal_holds fork_task (goal 0) (after_rounds fork_task [] (start_of fork_task) k) ≡ false
+    before zero low = refl
+    before (suc zero) low = refl
+    before (suc (suc zero)) low = refl
+    before (suc (suc (suc k))) low = absurd (omega arith)
+
+at0_is_at_level_0 : IsLevel fork_task (goal 2) [] (start_of fork_task) (Some 0)
+unfolding after_rounds grown
+at0_is_at_level_0 = (refl, λ k low. absurd (omega arith))
+
+removed_action_adds_in_no_round : grown_to (b ∷ []) 4 ≡ Some (true ∷ true ∷ false ∷ false ∷ false ∷ [])
+unfolding after_rounds grown
+removed_action_adds_in_no_round = refl
 
 abbrev keep : World Name
 keep = record {

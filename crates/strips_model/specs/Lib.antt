@@ -5,3 +5,5 @@ pub mod Common
 pub mod Worlds
 pub mod Cuts
 pub mod Moves
+pub mod Levels
+pub mod Index

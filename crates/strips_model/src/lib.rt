@@ -2,6 +2,7 @@
 #![tactic(auto)]
 
 mod family;
+mod index;
 mod lists;
 mod moves;
 mod steps;
@@ -9,6 +10,7 @@ mod task;
 mod witness;
 
 pub use family::Family;
+pub use index::AtomIndex;
 pub use lists::{atoms_of, state_of};
 pub use moves::Moves;
 pub use steps::{advance, applies, apply_in, contains_all, embeds, holds, run_plan, start};

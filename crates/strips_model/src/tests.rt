@@ -174,3 +174,13 @@ fn one_step_serves_one_observation(rt: HostRuntime) {
     }
     assert!(rt; embeds(&[], &plan) && !embeds(&plan, &[A]));
 }
+
+#[test]
+fn index_lists_the_actions_of_an_atom(rt: HostRuntime) -> Result<(), Fail> {
+    let mut index = AtomIndex::new(rt.alloc(), 3)?;
+    index.add(AtomId(1), L)?;
+    index.add(AtomId(1), A)?;
+    assert!(rt; index.at(AtomId(0)).is_empty() && index.at(AtomId(2)).is_empty());
+    assert_eq!(rt; index.at(AtomId(1)), [L, A].as_slice());
+    Ok(())
+}
