@@ -1,5 +1,5 @@
 -- The best bound of each state that has a row, and what it tells of successors and rows.
-use Rattle.std.proofs.Common.{◌≡◌, ℕ, zero, suc, ◌+◌, ◌-◌, ◌<◌, Bool, false, cond, List, [], ◌∷◌, ◌++◌, length, refl, sym, ◌∙◌, ap, subst, arith, Some, None}
+use Rattle.std.proofs.Common.{◌≡◌, ℕ, zero, suc, ◌-◌, Bool, List, [], ◌∷◌, ◌++◌, refl, sym, ◌∙◌, ap, subst, arith, Some, None}
 use Rattle.std.specs.Prelude.{◌↔◌, IsTrue, All, Any, Contains}
 use Rattle.std.proofs.lemmas.List.Elements.{All-nil, All-weaker, All-push, All-contains}
 use Rattle.std.proofs.lemmas.List.Quantifiers.{Any-push}
@@ -13,8 +13,7 @@ use Rattle.grd_base.specs.declared.limits.Bound.TheVariants.{Steps}
 use Rattle.strips_model.specs.Plans.{State, set_of, step, step_without}
 use Rattle.strips_model.specs.Moves.{allowed_of}
 use Rattle.strips_model.specs.Values.{PlainTask}
-use Rattle.grd_base.specs.Rising.{has_id}
-use Rattle.strips_model.proofs.MoveLemmas.{allowed_good, step_allowed}
+use Rattle.strips_model.proofs.MoveLemmas.{allowed_step, step_allowed}
 use Rattle.grd_base.proofs.SameLemmas.{bits_eq, bits_eq-Decides, same_by_members}
 use Rattle.cost_certificate.specs.Rows.{PlainRow}
 use Rattle.cost_certificate.specs.Tables.{IsAtMost, HasRow, SuccessorsHave, StepsHold, RowsHold}
@@ -97,31 +96,17 @@ best_none {W} entries none = subst (AreBest []) (sym none) (record {
   best = All-nil (λ (r : PlainRow). Any (λ (e : Bits W × Bound). (members e.0 ≡ set_of r.state) × IsAtMost r.bound e.1) []);
 })
 
--- an action that is not removed steps as without removed actions
-kept_step : (t : PlainTask) (removed : List ActionId) (s : State) (a : ActionId) → has_id removed a ≡ false → step_without t removed s a ≡ step t s a
-unfolding step_without
-kept_step t removed s a kept = ap (λ b. cond b None (step t s a)) kept
-
 module _ (t : PlainTask) (removed : List ActionId) where
   -- the step by the action, where there is one, leads to a state with a row
   abbrev pub HasNext : List PlainRow → State → Bound → ActionId → Type 0
   HasNext rows s need a = (u : State) → step_without t removed s a ≡ Some u → HasRow rows u need
-
-  -- an allowed action is one of the task's
-  pub allowed_number : (a : ActionId) → Contains (allowed_of t removed) a → a.0 < length t.actions
-  allowed_number a allowed = (All-contains (λ b. (b.0 < length t.actions) × (has_id removed b ≡ false)) (allowed_of t removed) a (allowed_good t removed) allowed).0
-
-  -- an allowed action steps as without removed actions
-  allowed_step : (s : State) (a : ActionId) → Contains (allowed_of t removed) a → step_without t removed s a ≡ step t s a
-  allowed_step s a allowed = kept_step t removed s a
-      (All-contains (λ b. (b.0 < length t.actions) × (has_id removed b ≡ false)) (allowed_of t removed) a (allowed_good t removed) allowed).1
 
   -- what the entries tell of the step by an allowed action
   pub next_tells : {W : ℕ} (rows : List PlainRow) (entries : List (Bits W × Bound)) (need : Bound) (s : State) (a : ActionId) → Contains (allowed_of t removed) a
       → (next : Bits W) → Some (members next) ≡ step t s a → IsWhole next → (b : Bool) → (IsTrue b ↔ Any (λ e. (e.0 ≡ next) × IsAtMost need e.1) entries) → AreBest rows entries
       → IsTrue b ↔ HasNext rows s need a
   next_tells rows entries need s a allowed next leads whole b tells best =
-      let is : step_without t removed s a ≡ Some (members next) = allowed_step s a allowed ∙ sym leads in
+      let is : step_without t removed s a ≡ Some (members next) = allowed_step t removed a allowed s ∙ sym leads in
       let has = best_tells rows entries next need whole best in (
         λ holds u there. subst (λ v. HasRow rows v need) (same_Some (members next) u (sym is ∙ there)) (has.0 (tells.0 holds)),
         λ all. tells.1 (has.1 (all (members next) is)),
@@ -130,7 +115,7 @@ module _ (t : PlainTask) (removed : List ActionId) where
   -- an action that does not apply leads nowhere
   pub no_next : (rows : List PlainRow) (need : Bound) (s : State) (a : ActionId) → Contains (allowed_of t removed) a → None ≡ step t s a → HasNext rows s need a
   no_next rows need s a allowed stuck u there =
-      let e : None ≡ Some u = stuck ∙ sym (allowed_step s a allowed) ∙ there in cc
+      let e : None ≡ Some u = stuck ∙ sym (allowed_step t removed a allowed s) ∙ there in cc
 
   -- all successors are by allowed actions
   pub all_next : (rows : List PlainRow) (need : Bound) (s : State) → All (HasNext rows s need) (allowed_of t removed) → SuccessorsHave t removed rows s need

@@ -1,11 +1,11 @@
 -- The actions of cuts, as they are gathered and seen.
-use Rattle.std.proofs.Common.{◌≡◌, ◌↔◌, ◌⊎◌, ◌==◌, ℕ, ◌+◌, ◌<◌, ◌≤◌, Bool, true, false, cond, not, Decides, List, [], ◌∷◌, ◌++◌, length, take, get_or, Contains, refl, sym, ◌∙◌, ap, subst, inl, inr, arith, Option, Some, None}
-use Rattle.std.specs.Prelude.{slice_get, filter, All, length}
+use Rattle.std.proofs.Common.{◌≡◌, ◌↔◌, ◌⊎◌, ◌==◌, ℕ, ◌+◌, ◌<◌, ◌≤◌, Bool, true, false, cond, not, Decides, List, [], ◌∷◌, ◌++◌, length, take, get_or, Contains, refl, sym, ◌∙◌, ap, subst, inl, inr, Option, Some, None}
+use Rattle.std.specs.Prelude.{slice_get, filter, length}
 use Rattle.std.specs.Option.{option_map_or, option_and_then}
 use Rattle.std.specs.List.{list_any}
 use Rattle.std.proofs.lemmas.Bool.{false≢true, and_parts, and_from, not-true, not_from_false, eq-eqb, eqb-true}
 use Rattle.std.proofs.lemmas.List.{take_more, take_all}
-use Rattle.std.proofs.lemmas.List.Elements.{All-nil, All-cons, All-weaker, All-filter, All-contains, All-contains_itself, filter_passes, Contains-push, Contains-push_cases, Contains-append_left, Contains-append_right}
+use Rattle.std.proofs.lemmas.List.Elements.{All-contains, Contains-push, Contains-push_cases, Contains-append_left}
 use Rattle.std.proofs.lemmas.Map.Made.{is_member-Decides}
 use Rattle.indexmap.specs.IndexSet.{insert_key}
 use Rattle.grd_base.specs.declared.ids.ActionId.{ActionId}
@@ -14,6 +14,7 @@ use Rattle.strips_model.specs.Values.{GroundAction, PlainTask}
 use Rattle.strips_model.specs.Plans.{State, step, can_apply, effect}
 use Rattle.strips_model.specs.Moves.{allowed_of}
 use Rattle.strips_model.specs.Cuts.{leads_out, cut}
+use Rattle.strips_model.proofs.FilterLemmas.{filtered}
 use Rattle.strips_model.proofs.StepLemmas.{kept_step}
 use Rattle.strips_model.proofs.MoveLemmas.{allowed_good, step_allowed}
 use Rattle.cost_certificate.specs.Seen.{IsCutList}
@@ -77,25 +78,6 @@ gathered_more start actions keys new i d within is so_far b =
 -- all elements of the list are inserted
 pub gathered_all : (start actions keys : List ActionId) (i : ℕ) → length actions ≤ i → AreGathered start (take i actions) keys → AreGathered start actions keys
 gathered_all start actions keys i all so_far = subst (λ front. AreGathered start front keys) (take_all i actions all) so_far
-
--- each element that passes the test is kept by the filter
-kept : {X : Type 0} (p : X → Bool) (xs : List X) → All (λ y. p y ≡ true → Contains (filter p xs) y) xs
-kept {X} p [] = All-nil (λ (y : X). p y ≡ true → Contains (filter p []) y)
-kept {X} p (x ∷ xs) =
-    All-cons (λ (y : X). p y ≡ true → Contains (filter p (x ∷ xs)) y) x xs
-    (λ e. subst (λ (zs : List X). Contains zs x) (sym (ap (λ b. cond b (x ∷ filter p xs) (filter p xs)) e)) (0, omega arith, refl))
-    (All-weaker (λ (y : X). p y ≡ true → Contains (filter p xs) y) (λ (y : X). p y ≡ true → Contains (filter p (x ∷ xs)) y) (λ y there e. by y (p x) (there e)) xs (kept p xs))
-  where
-    by : (y : X) (b : Bool) → Contains (filter p xs) y → Contains (cond b (x ∷ filter p xs) (filter p xs)) y
-    by y true there = Contains-append_right (x ∷ []) (filter p xs) y there
-    by y false there = there
-
--- what a filtered list contains
-pub filtered : {X : Type 0} (p : X → Bool) (xs : List X) (x : X) → Contains (filter p xs) x ↔ (Contains xs x × (p x ≡ true))
-filtered {X} p xs x = (
-  λ there. (All-contains (Contains xs) (filter p xs) x (All-filter p (Contains xs) xs (All-contains_itself xs)) there, All-contains (λ (y : X). p y ≡ true) (filter p xs) x (filter_passes p xs) there),
-  λ h. All-contains (λ (y : X). p y ≡ true → Contains (filter p xs) y) xs x (kept p xs) h.0 h.1,
-)
 
 -- whether the action with this number leads out of the set
 abbrev pub leads : PlainTask → State → ActionId → Bool

@@ -4,12 +4,13 @@ use Rattle.std.specs.Prelude.{slice_get, filter, Contains, All}
 use Rattle.std.specs.Option.{option_and_then}
 use Rattle.std.specs.List.{enumerate_from}
 use Rattle.std.proofs.lemmas.Bool.{cases_Bool, and_parts, and_from, not_from_false, false≢true}
-use Rattle.std.proofs.lemmas.List.Elements.{All-nil, All-cons}
+use Rattle.std.proofs.lemmas.List.Elements.{All-nil, All-cons, All-contains}
 use Rattle.grd_base.specs.declared.ids.ActionId.{ActionId}
 use Rattle.grd_base.specs.Rising.{has_id}
 use Rattle.strips_model.specs.Values.{GroundAction, PlainTask}
 use Rattle.strips_model.specs.Plans.{State, step, step_without, can_apply, effect}
 use Rattle.strips_model.specs.Moves.{is_allowed, allowed_of}
+use Rattle.strips_model.proofs.StepLemmas.{kept_step}
 
 -- the numbers, counted from k, of the allowed actions
 abbrev pub numbers_from : List ActionId → ℕ → List GroundAction → List ActionId
@@ -116,3 +117,15 @@ step_allowed t removed s a u e =
     subst (λ ns. Contains ns a) (sym (all_numbers t removed))
     (subst (λ n. Contains (numbers_from removed 0 t.actions) (record { 0 = n })) zero
     (has_number removed 0 t.actions a.0 x.action x.at (ap (λ n. is_allowed removed (n, x.action)) zero ∙ is)))
+
+module _ (t : PlainTask) (removed : List ActionId) (a : ActionId) (allowed : Contains (allowed_of t removed) a) where
+  good : (a.0 < length t.actions) × (has_id removed a ≡ false)
+  good = All-contains (λ b. (b.0 < length t.actions) × (has_id removed b ≡ false)) (allowed_of t removed) a (allowed_good t removed) allowed
+
+  -- an allowed action is one of the task's
+  pub allowed_number : a.0 < length t.actions
+  allowed_number = good.0
+
+  -- an allowed action steps as without removed actions
+  pub allowed_step : (s : State) → step_without t removed s a ≡ step t s a
+  allowed_step s = kept_step t removed s a good.1

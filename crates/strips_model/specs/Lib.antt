@@ -6,4 +6,5 @@ pub mod Worlds
 pub mod Cuts
 pub mod Moves
 pub mod Levels
+pub mod StateLists
 pub mod Index

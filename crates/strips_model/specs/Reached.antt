@@ -1,23 +1,37 @@
--- Reached states.
-use Rattle.std.specs.Prelude.{◌≡◌, ℕ, ◌≤◌, List, [], length, Some}
+-- Reached states, and which of them count for a goal.
+use Rattle.std.specs.Prelude.{◌≡◌, ℕ, ◌+◌, ◌≤◌, List, [], length, Some}
 use Rattle.grd_base.specs.declared.ids.ActionId.{ActionId}
 use Rattle.grd_base.specs.declared.ids.GoalId.{GoalId}
 use Rattle.strips_model.specs.Values.{PlainTask}
 use Rattle.strips_model.specs.Plans.{State, after, start_of, IsCost}
+use Rattle.strips_model.specs.Levels.{IsLevel}
 
--- some sequence of at most n actions leads from the one state to the other, without the removed actions
-pub record IsWithinSteps (t : PlainTask) (removed : List ActionId) (s : State) (n : ℕ) (u : State) : Type 0 where
+-- some sequence leads from the start to the state, in at most as many steps as the goal costs; where the
+-- goal has no plan, of any length
+pub record IsReachedFor (t : PlainTask) (g : GoalId) (u : State) : Type 0 where
   pub path : List ActionId
-  pub leads : after t removed s path ≡ Some u
-  pub short : length path ≤ n
+  pub leads : after t [] (start_of t) path ≡ Some u
+  pub within : (c : ℕ) → IsCost t g [] (Some c) → length path ≤ c
 
--- some sequence leads from the start to the state without the removed actions, in at most as many steps
--- as the goal costs without them; where the goal has no plan, of any length
-pub record IsReachedWithout (t : PlainTask) (g : GoalId) (removed : List ActionId) (u : State) : Type 0 where
+-- some sequence leads from the start to the state without the removed actions, and its length and the
+-- level of the goal at the state are together at most what the goal costs without them; where the goal
+-- has no plan, any length and any level serve, but a level there must be
+pub record IsNearWithout (t : PlainTask) (g : GoalId) (removed : List ActionId) (u : State) : Type 0 where
   pub path : List ActionId
   pub leads : after t removed (start_of t) path ≡ Some u
-  pub within : (c : ℕ) → IsCost t g removed (Some c) → length path ≤ c
+  pub level : ℕ
+  pub level_is : IsLevel t g removed u (Some level)
+  pub within : (c : ℕ) → IsCost t g removed (Some c) → length path + level ≤ c
 
 -- the same with all actions
-abbrev pub IsReachedFor : PlainTask → GoalId → State → Type 0
-IsReachedFor t g = IsReachedWithout t g []
+abbrev pub IsNear : PlainTask → GoalId → State → Type 0
+IsNear t g = IsNearWithout t g []
+
+-- some sequence leads from the one state to the other without the removed actions, and its length and the
+-- level of the goal there are together at most n
+pub record IsNearWithin (t : PlainTask) (g : GoalId) (removed : List ActionId) (s : State) (n : ℕ) (u : State) : Type 0 where
+  pub path : List ActionId
+  pub leads : after t removed s path ≡ Some u
+  pub level : ℕ
+  pub level_is : IsLevel t g removed u (Some level)
+  pub near : length path + level ≤ n

@@ -14,7 +14,7 @@ pub use index::AtomIndex;
 pub use lists::{atoms_of, state_of};
 pub use moves::Moves;
 pub use steps::{advance, applies, apply_in, contains_all, embeds, holds, run_plan, start};
-pub use task::{Action, Condition, Task, fits};
+pub use task::{Action, Condition, Task, fits, known_task};
 pub use witness::Witness;
 
 #[cfg(test)]

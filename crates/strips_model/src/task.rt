@@ -1,4 +1,5 @@
 ghost use Rattle.std.specs.Prelude.{◌*◌, ◌≤◌};
+ghost use Rattle.strips_model.specs.Values.{IsTask};
 
 use grd_base::AtomId;
 use std::marker::Model;
@@ -68,6 +69,13 @@ impl Model for Task {
 /// The widest bit sets hold the atoms of any task.
 pub fn fits(task: &Task)
     ensures { task.now.atoms ≤ 64 * 64 }
+{
+    let _atoms = task.atoms;
+}
+
+/// What holds of every task holds of this one.
+pub fn known_task(task: &Task)
+    ensures { IsTask task.now }
 {
     let _atoms = task.atoms;
 }

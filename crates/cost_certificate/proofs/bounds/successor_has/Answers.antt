@@ -1,7 +1,8 @@
 use Rattle.std.proofs.Common.{rules, ◌∙◌, ap, refl}
 use Rattle.grd_base.specs.Bits.{members}
 use Rattle.strips_model.specs.Plans.{step}
-use Rattle.cost_certificate.proofs.BoundLemmas.{allowed_number, next_tells, no_next}
+use Rattle.strips_model.proofs.MoveLemmas.{allowed_number}
+use Rattle.cost_certificate.proofs.BoundLemmas.{next_tells, no_next}
 use Rattle.cost_certificate.proofs.bounds.successor_has.Goals as goal
 
 pub advance-requires : goal.advance-requires
