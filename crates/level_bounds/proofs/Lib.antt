@@ -1,0 +1,4 @@
+mod FilingLemmas
+mod WaveLemmas
+pub mod LevelLaws
+pub mod FamilyLaws
