@@ -7,7 +7,6 @@ use Rattle.grd_io.specs.Bytes.{Told, IsLongerFile}
 use Rattle.grd_io.specs.Causes.{Rose}
 use Rattle.strips_model.specs.Worlds.{goal_of}
 use Rattle.grd_base.specs.Counts.{MoreThan}
-use Rattle.strips_model.specs.Reached.{IsReachedFor}
 use Rattle.pddl_reader.specs.Values.{PlainDomain, PlainProblem}
 use Rattle.pddl_reader.specs.Spelling.{IsDomainText, IsProblemText}
 use Rattle.type_check.specs.Values.{PlainTyped, PlainGroundAtom, is_same_atom}
@@ -24,9 +23,11 @@ use Rattle.grd_program.specs.declared.status.Refusal.TheVariants.{TooLong, Pddl,
 use Rattle.grd_program.specs.declared.status.LimitFault.TheVariants.{States}
 use Rattle.grd_program.specs.declared.command.Command.{Command}
 use Rattle.grd_program.specs.declared.command.Command.TheVariants.{Cost, Wcd, Show}
+use Rattle.grd_program.specs.declared.report.Question.{Question}
+use Rattle.grd_program.specs.declared.report.Question.TheVariants.{Costs, Wcd as OfWcd}
 use Rattle.grd_program.specs.Commands.{PlainJob, Reads}
 use Rattle.grd_program.specs.Causes.{HasText, FailsDomain, FailsProblem, HasFew, HasCountCause, SpellsOnlyGoals, HasOnlyFault}
-use Rattle.grd_program.specs.Runs.{SpellsOnly, TakesTexts, TakesTyped, TakesGoals, ReadsOnly, HasTexts, HasNoFault, CanReport, CanAnswer, HasTextsCause, HasTypedCause, HasFilesCause, HasCommandCause, HasCause, MayBecome, MeetsLimit, IsComplete}
+use Rattle.grd_program.specs.Runs.{SpellsOnly, TakesTexts, TakesTyped, TakesGoals, ReadsOnly, HasTexts, HasNoFault, CanReport, CanAnswer, HasTextsCause, HasTypedCause, HasFilesCause, HasCommandCause, HasCause, MayBecome, CountsFor, MeetsLimit, IsComplete}
 
 -- the value that a file spells is the one that was taken
 taken : {V : Type 0} (Spells : List ℕ → V → Type 0) (told : Told) (text : List ℕ) (x y : V)
@@ -90,75 +91,76 @@ module _ (told : List ℕ → Told) (before now : List ℕ → Bool → ℕ) (jo
   texts_complete d p w f (WriteFailed target) h = absurd h
   texts_complete d p w f OutOfMemory h = refl
 
-  as_texts : (can : CanReport told before now job ob on) (s : Status) → HasTextsCause told before now job s → s ≡ OutOfMemory
-  as_texts can = texts_complete can.world.domain can.world.problem can.world.texts can.no_fault
+  module _ (question : Question) where
+    as_texts : (can : CanReport question told before now job ob on) (s : Status) → HasTextsCause told before now job s → s ≡ OutOfMemory
+    as_texts can = texts_complete can.world.domain can.world.problem can.world.texts can.no_fault
 
-  -- nor is their typing, where a report can be made
-  typing_complete : (can : CanReport told before now job ob on) (fault : TypeFault) → HasTypedCause told before now job (Refused (Typing fault)) → ⊥
-  typing_complete can fault h =
-      h.4.not_typed (subst (λ q. IsWellTyped h.1 q) (same_problem can.world.domain h.1 can.world.problem h.2 can.world.texts h.3)
-      (subst (λ d. IsWellTyped d can.world.problem) (same_domain can.world.domain h.1 can.world.problem h.2 can.world.texts h.3) can.world.are_typed.well_typed))
+    -- nor is their typing, where a report can be made
+    typing_complete : (can : CanReport question told before now job ob on) (fault : TypeFault) → HasTypedCause told before now job (Refused (Typing fault)) → ⊥
+    typing_complete can fault h =
+        h.4.not_typed (subst (λ q. IsWellTyped h.1 q) (same_problem can.world.domain h.1 can.world.problem h.2 can.world.texts h.3)
+        (subst (λ d. IsWellTyped d can.world.problem) (same_domain can.world.domain h.1 can.world.problem h.2 can.world.texts h.3) can.world.are_typed.well_typed))
 
-  -- what they make is what was taken
-  same_typed : (can : CanReport told before now job ob on) (typed : PlainTyped) → TakesTyped told job typed → typed ≡ can.typed
-  same_typed can typed takes =
-      sym (takes.only can.typed
-      (subst (λ q. IsTyped takes.domain q can.typed) (same_problem can.world.domain takes.domain can.world.problem takes.problem can.world.texts takes.texts)
-      (subst (λ d. IsTyped d can.world.problem can.typed) (same_domain can.world.domain takes.domain can.world.problem takes.problem can.world.texts takes.texts)
-      can.world.are_typed.made)))
+    -- what they make is what was taken
+    same_typed : (can : CanReport question told before now job ob on) (typed : PlainTyped) → TakesTyped told job typed → typed ≡ can.typed
+    same_typed can typed takes =
+        sym (takes.only can.typed
+        (subst (λ q. IsTyped takes.domain q can.typed) (same_problem can.world.domain takes.domain can.world.problem takes.problem can.world.texts takes.texts)
+        (subst (λ d. IsTyped d can.world.problem can.typed) (same_domain can.world.domain takes.domain can.world.problem takes.problem can.world.texts takes.texts)
+        can.world.are_typed.made)))
 
-  -- and so are the goals
-  same_goals : (can : CanReport told before now job ob on) (goals : List (List PlainGroundAtom)) → TakesGoals told job.goals can.typed goals → goals ≡ can.goals
-  same_goals can goals takes =
-      sym ((subst (λ t. HasText t (λ text. SpellsOnlyGoals can.typed text goals)) can.world.goals_there takes).1.only can.goals can.world.gives)
+    -- and so are the goals
+    same_goals : (can : CanReport question told before now job ob on) (goals : List (List PlainGroundAtom)) → TakesGoals told job.goals can.typed goals → goals ≡ can.goals
+    same_goals can goals takes =
+        sym ((subst (λ t. HasText t (λ text. SpellsOnlyGoals can.typed text goals)) can.world.goals_there takes).1.only can.goals can.world.gives)
 
-  goals_complete : (can : CanReport told before now job ob on) (fault : GoalFault) → HasText (told job.goals) (λ text. HasOnlyFault can.typed text fault) → ⊥
-  goals_complete can fault h =
-      (subst (λ t. HasText t (λ text. HasOnlyFault can.typed text fault)) can.world.goals_there h).1.no_goals can.goals can.world.gives
+    goals_complete : (can : CanReport question told before now job ob on) (fault : GoalFault) → HasText (told job.goals) (λ text. HasOnlyFault can.typed text fault) → ⊥
+    goals_complete can fault h =
+        (subst (λ t. HasText t (λ text. HasOnlyFault can.typed text fault)) can.world.goals_there h).1.no_goals can.goals can.world.gives
 
-  limit_complete : (can : CanReport told before now job ob on) (g : GoalId) (limit : ℕ) → MeetsLimit job.limits.states (ground_task can.typed can.goals) g limit → ⊥
-  limit_complete can g limit meets =
-      can.few_states g (omega (arith, meets.0, goals_many can.typed can.goals))
-      (subst (λ n. MoreThan n (IsReachedFor (ground_task can.typed can.goals) g)) meets.1 meets.2)
+    limit_complete : (can : CanReport question told before now job ob on) (g : GoalId) (limit : ℕ) → MeetsLimit question job.limits.states (ground_task can.typed can.goals) g limit → ⊥
+    limit_complete can g limit meets =
+        can.few_states g (omega (arith, meets.0, goals_many can.typed can.goals))
+        (subst (λ n. MoreThan n (CountsFor question (ground_task can.typed can.goals) g)) meets.1 meets.2)
 
-  -- nor is one of the three files, nor the world that they spell
-  files_complete : CanReport told before now job ob on → (s : Status) → HasFilesCause told before now job s → s ≡ OutOfMemory
-  files_complete can Done h = absurd h
-  files_complete can (Usage fault) h = absurd h
-  files_complete can (Refused (TooLong Domain limit)) h = as_texts can (Refused (TooLong Domain limit)) h
-  files_complete can (Refused (TooLong Problem limit)) h = as_texts can (Refused (TooLong Problem limit)) h
-  files_complete can (Refused (TooLong Goals limit)) h =
-      absurd (short_file (told job.goals) can.world.goals_bytes limit can.world.goals_there can.world.goals_short h.0 h.4)
-  files_complete can (Refused (TooLong Observations limit)) h = absurd h
-  files_complete can (Refused (TooLong Certificate limit)) h = absurd h
-  files_complete can (Refused (Pddl Domain fault)) h = as_texts can (Refused (Pddl Domain fault)) h
-  files_complete can (Refused (Pddl Problem fault)) h = as_texts can (Refused (Pddl Problem fault)) h
-  files_complete can (Refused (Pddl Goals fault)) h = absurd h
-  files_complete can (Refused (Pddl Observations fault)) h = absurd h
-  files_complete can (Refused (Pddl Certificate fault)) h = absurd h
-  files_complete can (Refused (Typing fault)) h = absurd (typing_complete can fault h)
-  files_complete can (Refused (OfGoals fault)) h =
-      absurd (goals_complete can fault (subst (λ t. HasText (told job.goals) (λ text. HasOnlyFault t text fault)) (same_typed can h.2 h.3) h.4))
-  files_complete can (Refused (Count fault)) h =
-      absurd (no_count can.typed fault can.few (subst (λ t. HasCountCause t (Refused (Count fault))) (same_typed can h.1 h.3.takes_typed) h.4))
-  files_complete can (Limit (States g limit)) h =
-      let same : h.1 ≡ can.typed = same_typed can h.1 h.3.takes_typed in
-      let all : h.2 ≡ can.goals = same_goals can h.2 (subst (λ t. TakesGoals told job.goals t h.2) same h.3.takes_goals) in
-      absurd (limit_complete can g limit
-      (subst (λ gs. MeetsLimit job.limits.states (ground_task can.typed gs) g limit) all
-      (subst (λ t. MeetsLimit job.limits.states (ground_task t h.2) g limit) same h.4.1)))
-  files_complete can (ReadFailed Domain) h = as_texts can (ReadFailed Domain) h
-  files_complete can (ReadFailed Problem) h = as_texts can (ReadFailed Problem) h
-  files_complete can (ReadFailed Goals) h = absurd (can.reads_goals h.1.rose)
-  files_complete can (ReadFailed Observations) h = absurd h
-  files_complete can (ReadFailed Certificate) h = absurd h
-  files_complete can (WriteFailed target) h = absurd h
-  files_complete can OutOfMemory h = refl
+    -- nor is one of the three files, nor the world that they spell
+    files_complete : CanReport question told before now job ob on → (s : Status) → HasFilesCause question told before now job s → s ≡ OutOfMemory
+    files_complete can Done h = absurd h
+    files_complete can (Usage fault) h = absurd h
+    files_complete can (Refused (TooLong Domain limit)) h = as_texts can (Refused (TooLong Domain limit)) h
+    files_complete can (Refused (TooLong Problem limit)) h = as_texts can (Refused (TooLong Problem limit)) h
+    files_complete can (Refused (TooLong Goals limit)) h =
+        absurd (short_file (told job.goals) can.world.goals_bytes limit can.world.goals_there can.world.goals_short h.0 h.4)
+    files_complete can (Refused (TooLong Observations limit)) h = absurd h
+    files_complete can (Refused (TooLong Certificate limit)) h = absurd h
+    files_complete can (Refused (Pddl Domain fault)) h = as_texts can (Refused (Pddl Domain fault)) h
+    files_complete can (Refused (Pddl Problem fault)) h = as_texts can (Refused (Pddl Problem fault)) h
+    files_complete can (Refused (Pddl Goals fault)) h = absurd h
+    files_complete can (Refused (Pddl Observations fault)) h = absurd h
+    files_complete can (Refused (Pddl Certificate fault)) h = absurd h
+    files_complete can (Refused (Typing fault)) h = absurd (typing_complete can fault h)
+    files_complete can (Refused (OfGoals fault)) h =
+        absurd (goals_complete can fault (subst (λ t. HasText (told job.goals) (λ text. HasOnlyFault t text fault)) (same_typed can h.2 h.3) h.4))
+    files_complete can (Refused (Count fault)) h =
+        absurd (no_count can.typed fault can.few (subst (λ t. HasCountCause t (Refused (Count fault))) (same_typed can h.1 h.3.takes_typed) h.4))
+    files_complete can (Limit (States g limit)) h =
+        let same : h.1 ≡ can.typed = same_typed can h.1 h.3.takes_typed in
+        let all : h.2 ≡ can.goals = same_goals can h.2 (subst (λ t. TakesGoals told job.goals t h.2) same h.3.takes_goals) in
+        absurd (limit_complete can g limit
+        (subst (λ gs. MeetsLimit question job.limits.states (ground_task can.typed gs) g limit) all
+        (subst (λ t. MeetsLimit question job.limits.states (ground_task t h.2) g limit) same h.4.1)))
+    files_complete can (ReadFailed Domain) h = as_texts can (ReadFailed Domain) h
+    files_complete can (ReadFailed Problem) h = as_texts can (ReadFailed Problem) h
+    files_complete can (ReadFailed Goals) h = absurd (can.reads_goals h.1.rose)
+    files_complete can (ReadFailed Observations) h = absurd h
+    files_complete can (ReadFailed Certificate) h = absurd h
+    files_complete can (WriteFailed target) h = absurd h
+    files_complete can OutOfMemory h = refl
 
   -- nor is any of its command's, where a command has all that it needs
   command_complete : (command : Command) → CanAnswer command told before now job ob on → (s : Status) → HasCommandCause command told before now job s → s ≡ OutOfMemory
-  command_complete Cost can s h = files_complete can s h
-  command_complete Wcd can s h = files_complete can s h
+  command_complete Cost can s h = files_complete Costs can s h
+  command_complete Wcd can s h = files_complete OfWcd can s h
   command_complete Show can s h = texts_complete can.domain can.problem can.texts can.no_fault s h
 
 -- the job of the cause is the one for which the words ask

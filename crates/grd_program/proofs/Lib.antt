@@ -5,3 +5,4 @@ pub mod WordsTable
 pub mod WordsItems
 pub mod WordsGiven
 pub mod WordsOnce
+pub mod NearLemmas

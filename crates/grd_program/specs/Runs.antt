@@ -6,7 +6,8 @@ use Rattle.grd_io.specs.Bytes.{Told, extended, IsLongerFile}
 use Rattle.grd_io.specs.Causes.{Rose}
 use Rattle.strips_model.specs.Values.{PlainTask}
 use Rattle.grd_base.specs.Counts.{MoreThan}
-use Rattle.strips_model.specs.Reached.{IsReachedFor}
+use Rattle.strips_model.specs.Plans.{State}
+use Rattle.strips_model.specs.Reached.{IsReachedFor, IsNear}
 use Rattle.pddl_reader.specs.Values.{PlainDomain, PlainProblem}
 use Rattle.pddl_reader.specs.Spelling.{IsDomainText, IsProblemText}
 use Rattle.type_check.specs.Values.{PlainTyped, PlainGroundAtom}
@@ -127,20 +128,26 @@ MayBecome Done after = after ≡ Done
 MayBecome (WriteFailed target) after = after ≡ WriteFailed target
 MayBecome before after = (after ≡ before) ⊎ (after ≡ OutOfMemory)
 
--- more states are reached for the goal, one of the task's, than the limit in force
-abbrev pub MeetsLimit : ℕ → PlainTask → GoalId → ℕ → Type 0
-MeetsLimit states t g limit = (g.0 < length t.goals) × (limit ≡ states) × MoreThan limit (IsReachedFor t g)
+-- which states count against the limit for a goal: for the costs those that are near, and for the wcd
+-- all that are reached
+abbrev pub CountsFor : Question → PlainTask → GoalId → State → Type 0
+CountsFor Costs t g = IsNear t g
+CountsFor OfWcd t g = IsReachedFor t g
+
+-- more states count for the goal, one of the task's, than the limit in force
+abbrev pub MeetsLimit : Question → ℕ → PlainTask → GoalId → ℕ → Type 0
+MeetsLimit question states t g limit = (g.0 < length t.goals) × (limit ≡ states) × MoreThan limit (CountsFor question t g)
 
 -- why there is no answer over a task, where so many states may be kept
-abbrev pub HasSearchCause : ℕ → PlainTask → Status → Type 0
-HasSearchCause states t (Limit (States g limit)) = MeetsLimit states t g limit
-HasSearchCause states t OutOfMemory = Unit {0}
-HasSearchCause states t status = ⊥
+abbrev pub HasSearchCause : Question → ℕ → PlainTask → Status → Type 0
+HasSearchCause question states t (Limit (States g limit)) = MeetsLimit question states t g limit
+HasSearchCause question states t OutOfMemory = Unit {0}
+HasSearchCause question states t status = ⊥
 
 -- why there is no report over a world that was read: it is too large, or a search met its limit
-abbrev pub HasAnswerCause : ℕ → PlainTyped → List (List PlainGroundAtom) → Status → Type 0
-HasAnswerCause states typed goals (Limit (States g limit)) = HasFew typed × MeetsLimit states (ground_task typed goals) g limit
-HasAnswerCause states typed goals status = HasCountCause typed status
+abbrev pub HasAnswerCause : Question → ℕ → PlainTyped → List (List PlainGroundAtom) → Status → Type 0
+HasAnswerCause question states typed goals (Limit (States g limit)) = HasFew typed × MeetsLimit question states (ground_task typed goals) g limit
+HasAnswerCause question states typed goals status = HasCountCause typed status
 
 -- the text spells this value and no other
 abbrev pub SpellsOnly : {V : Type 0} → (List ℕ → V → Type 0) → V → List ℕ → Type 0
@@ -197,27 +204,27 @@ HasTypedCause told before now job (Refused (Typing fault)) =
 HasTypedCause told before now job status = HasTextsCause told before now job status
 
 -- why there is no report over the three files; each answer comes only where the files before it were taken
-abbrev pub HasFilesCause : (List ℕ → Told) → (List ℕ → Bool → ℕ) → (List ℕ → Bool → ℕ) → PlainJob → Status → Type 0
-HasFilesCause told before now job (Refused (TooLong Goals limit)) =
+abbrev pub HasFilesCause : Question → (List ℕ → Told) → (List ℕ → Bool → ℕ) → (List ℕ → Bool → ℕ) → PlainJob → Status → Type 0
+HasFilesCause question told before now job (Refused (TooLong Goals limit)) =
     (limit ≡ 2 ^ 20) × IsQuiet before now × (typed : PlainTyped) × TakesTyped told job typed × IsLongerFile (told job.goals) limit
-HasFilesCause told before now job (Refused (OfGoals fault)) =
+HasFilesCause question told before now job (Refused (OfGoals fault)) =
     (fault ≢ GoalsOutOfMemory) × IsQuiet before now
     × (typed : PlainTyped) × TakesTyped told job typed × HasText (told job.goals) (λ text. HasOnlyFault typed text fault)
-HasFilesCause told before now job (Refused (Count fault)) =
+HasFilesCause question told before now job (Refused (Count fault)) =
     IsQuiet before now
     × (typed : PlainTyped) × (goals : List (List PlainGroundAtom)) × TakesFiles told job typed goals
-    × HasAnswerCause job.limits.states typed goals (Refused (Count fault))
-HasFilesCause told before now job (Limit fault) =
+    × HasAnswerCause question job.limits.states typed goals (Refused (Count fault))
+HasFilesCause question told before now job (Limit fault) =
     IsQuiet before now
     × (typed : PlainTyped) × (goals : List (List PlainGroundAtom)) × TakesFiles told job typed goals
-    × HasAnswerCause job.limits.states typed goals (Limit fault)
-HasFilesCause told before now job (ReadFailed Goals) = ((typed : PlainTyped) × TakesTyped told job typed) × OnlyRose before now job.goals
-HasFilesCause told before now job status = HasTypedCause told before now job status
+    × HasAnswerCause question job.limits.states typed goals (Limit fault)
+HasFilesCause question told before now job (ReadFailed Goals) = ((typed : PlainTyped) × TakesTyped told job typed) × OnlyRose before now job.goals
+HasFilesCause question told before now job status = HasTypedCause told before now job status
 
 -- why the command has no text for the job
 abbrev pub HasCommandCause : Command → (List ℕ → Told) → (List ℕ → Bool → ℕ) → (List ℕ → Bool → ℕ) → PlainJob → Status → Type 0
-HasCommandCause Cost told before now job status = HasFilesCause told before now job status
-HasCommandCause Wcd told before now job status = HasFilesCause told before now job status
+HasCommandCause Cost told before now job status = HasFilesCause Costs told before now job status
+HasCommandCause Wcd told before now job status = HasFilesCause OfWcd told before now job status
 HasCommandCause Show told before now job status = HasTextsCause told before now job status
 
 -- the words ask for this job, and no other, and nothing in them is at fault
@@ -299,15 +306,16 @@ pub record HasNoFault (before now : List ℕ → Bool → ℕ) (job : PlainJob) 
   pub reads_problem : Rose (before job.problem false) (now job.problem false) → ⊥
   pub writes : Rose out_before out_now → ⊥
 
--- the files spell a world that is small enough, no count rose, and no goal has more states than the limit
-pub record CanReport (told : List ℕ → Told) (before now : List ℕ → Bool → ℕ) (job : PlainJob) (out_before out_now : ℕ) : Type 0 where
+-- the files spell a world that is small enough, no count rose, and for no goal more states count than the
+-- limit
+pub record CanReport (question : Question) (told : List ℕ → Told) (before now : List ℕ → Bool → ℕ) (job : PlainJob) (out_before out_now : ℕ) : Type 0 where
   pub typed : PlainTyped
   pub goals : List (List PlainGroundAtom)
   pub world : HasWorld told job typed goals
   pub few : HasFew typed
   pub no_fault : HasNoFault before now job out_before out_now
   pub reads_goals : Rose (before job.goals false) (now job.goals false) → ⊥
-  pub few_states : (g : GoalId) → g.0 < length goals → MoreThan job.limits.states (IsReachedFor (ground_task typed goals) g) → ⊥
+  pub few_states : (g : GoalId) → g.0 < length goals → MoreThan job.limits.states (CountsFor question (ground_task typed goals) g) → ⊥
 
 -- the files spell a domain and a problem, and no count rose
 pub record CanShow (told : List ℕ → Told) (before now : List ℕ → Bool → ℕ) (job : PlainJob) (out_before out_now : ℕ) : Type 0 where
@@ -318,8 +326,8 @@ pub record CanShow (told : List ℕ → Told) (before now : List ℕ → Bool �
 
 -- the command has all that it needs for the job
 abbrev pub CanAnswer : Command → (List ℕ → Told) → (List ℕ → Bool → ℕ) → (List ℕ → Bool → ℕ) → PlainJob → ℕ → ℕ → Type 0
-CanAnswer Cost told before now job out_before out_now = CanReport told before now job out_before out_now
-CanAnswer Wcd told before now job out_before out_now = CanReport told before now job out_before out_now
+CanAnswer Cost told before now job out_before out_now = CanReport Costs told before now job out_before out_now
+CanAnswer Wcd told before now job out_before out_now = CanReport OfWcd told before now job out_before out_now
 CanAnswer Show told before now job out_before out_now = CanShow told before now job out_before out_now
 
 -- where the command has all that it needs, the run is Done, or ends in want of memory

@@ -48,8 +48,8 @@ fn read_inputs<F: Shelf>(alloc: Global, shelf: &mut F, job: &Job) -> Result<Inpu
         (λ i. TakesFiles (F.told shelf.old) job.now i.typed i.goals.items) }
     ensures task { IfOk result (λ i. IsTypedTask i.typed) }
     ensures few_goals { IfOk result (λ i. length i.goals.items ≤ 32) }
-    ensures cause { IfErr result
-        (HasFilesCause (F.told shelf.old) (F.faults shelf.old) (F.faults shelf.new) job.now) }
+    ensures cause { IfErr result (λ status. (question : Question)
+        → HasFilesCause question (F.told shelf.old) (F.faults shelf.old) (F.faults shelf.new) job.now status) }
     ensures files_stay { (x : List ℕ) → F.told shelf.new x ≡ F.told shelf.old x }
     ensures later { (x : List ℕ) (w : Bool) → F.faults shelf.old x w ≤ F.faults shelf.new x w }
     ensures quiet { OnOk result (IsQuiet (F.faults shelf.old) (F.faults shelf.new)) }
@@ -103,7 +103,7 @@ fn wcd_on(
         (λ text. IsWcdReport (ground_task world.now.typed world.now.goals) (action_names world.now.typed)
         (map (option_map (λ plan. plan.items)) found.now) text.items) }
     ensures cause { IfErr result
-        (HasSearchCause states (ground_task world.now.typed world.now.goals)) }
+        (HasSearchCause Question.Wcd states (ground_task world.now.typed world.now.goals)) }
 {
     let witness = match wcd(alloc, world.task(), found, states) {
         Ok(witness) => witness,
@@ -113,6 +113,7 @@ fn wcd_on(
 }
 
 /// The report that answers the question about a world.
+#[tactic(auto, using(crate::proofs::NearLemmas::near_counts))]
 fn report_of(
     alloc: Global,
     question: Question,
@@ -124,7 +125,7 @@ fn report_of(
     ensures report { IfOk result
         (λ text. IsReportOn question world.now.typed world.now.goals text.items) }
     ensures cause { IfErr result
-        (HasSearchCause states (ground_task world.now.typed world.now.goals)) }
+        (HasSearchCause question states (ground_task world.now.typed world.now.goals)) }
 {
     let task = world.task();
     let limits = Limits { states, sets: 0 };
@@ -152,7 +153,7 @@ fn report_on(
     requires few_goals { length goals.now ≤ 32 }
     ensures report { IfOk result (λ text. IsReportOn question typed.now goals.now text.items) }
     ensures few { OnOk result (HasFew typed.now) }
-    ensures cause { IfErr result (HasAnswerCause states typed.now goals.now) }
+    ensures cause { IfErr result (HasAnswerCause question states typed.now goals.now) }
 {
     let world = world_of(alloc, typed, goals)?;
     report_of(alloc, question, states, &world)
@@ -171,7 +172,7 @@ fn report_text<F: Shelf>(
         (λ text. IsReportText question (F.told shelf.old) job.now text.items) }
     ensures taken { OnOk result (HasTakenFiles (F.told shelf.old) job.now) }
     ensures cause { IfErr result
-        (HasFilesCause (F.told shelf.old) (F.faults shelf.old) (F.faults shelf.new) job.now) }
+        (HasFilesCause question (F.told shelf.old) (F.faults shelf.old) (F.faults shelf.new) job.now) }
     ensures files_stay { (x : List ℕ) → F.told shelf.new x ≡ F.told shelf.old x }
     ensures later { (x : List ℕ) (w : Bool) → F.faults shelf.old x w ≤ F.faults shelf.new x w }
     ensures quiet { OnOk result (IsQuiet (F.faults shelf.old) (F.faults shelf.new)) }

@@ -682,8 +682,9 @@ fn files_have_at_most_2_to_the_20_bytes(rt: HostRuntime) -> Result<(), Fail> {
     Ok(())
 }
 
-/// A domain of 17 atoms that can each be made true by itself, so that 2^17 states are reached.
-fn switches(alloc: Global) -> Result<String, AllocError> {
+/// A domain of 17 atoms that can each be made true by itself, so that 2^17 states are reached, with the
+/// atoms as a goal.
+fn switches(alloc: Global) -> Result<(String, String), AllocError> {
     let mut predicates = String::new(alloc);
     let mut actions = String::new(alloc);
     for i in 0..17u32 {
@@ -694,7 +695,32 @@ fn switches(alloc: Global) -> Result<String, AllocError> {
         )?;
         actions.push_str(action.as_str())?;
     }
-    format!(in alloc; "(define (domain switches) (:predicates (never) {predicates}) {actions})")
+    let domain = format!(in alloc;
+        "(define (domain switches) (:predicates (never) {predicates}) {actions})"
+    )?;
+    Ok((domain, predicates))
+}
+
+/// Fork with 20 more actions, each from its start to a place of its own, from which nothing leads on.
+fn traps(alloc: Global) -> Result<String, AllocError> {
+    let mut predicates = String::new(alloc);
+    let mut actions = String::new(alloc);
+    for i in 1..21u32 {
+        let predicate = format!(in alloc; " (e{i})")?;
+        predicates.push_str(predicate.as_str())?;
+        let action = format!(in alloc;
+            "(:action t{i} :parameters () :precondition (at0) :effect (and (e{i}) (not (at0))))"
+        )?;
+        actions.push_str(action.as_str())?;
+    }
+    format!(in alloc;
+        "(define (domain traps)
+(:predicates (at0) (at1) (at2) (atl) (atr){predicates})
+(:action a :parameters () :precondition (at0) :effect (and (at1) (not (at0))))
+(:action b :parameters () :precondition (at1) :effect (and (at2) (not (at1))))
+(:action l :parameters () :precondition (at2) :effect (and (atl) (not (at2))))
+(:action r :parameters () :precondition (at2) :effect (and (atr) (not (at2)))){actions})"
+    )
 }
 
 #[test]
@@ -713,12 +739,8 @@ fn goal_that_meets_the_limit_is_told(rt: HostRuntime) -> Result<(), Fail> {
             "grd: limit: more than 1 states near goal 2\n",
         ),
         ("cost", "(at0)\n(atl)", 5, ""),
-        (
-            "cost",
-            "(at0), (atl)\n(at0)",
-            4,
-            "grd: limit: more than 4 states near goal 1\n",
-        ),
+        // No state but the first has a level for both atoms.
+        ("cost", "(at0), (atl)\n(at0)", 1, ""),
         ("wcd", "(at0)\n(atl)", 5, ""),
         // Five states are within the three steps of its plan, and `cost` finds it with fewer.
         (
@@ -735,15 +757,32 @@ fn goal_that_meets_the_limit_is_told(rt: HostRuntime) -> Result<(), Fail> {
         assert_eq!(rt; outcome.err.as_str(), line, "{words} {goals}");
         assert_eq!(rt; outcome.status.code(), if line.is_empty() { 0 } else { 4 });
     }
-    let domain = switches(rt.alloc())?;
+    let (domain, all) = switches(rt.alloc())?;
+    let goals = format!(in rt.alloc(); "(never)\n(p0)(p16)\n{all}\n")?;
     let texts = Texts {
         domain: domain.as_str(),
         problem: "(define (problem p) (:domain switches) (:init) (:goal (and <hypothesis>)))",
-        goals: "(p0)(p16)\n(never)\n",
+        goals: goals.as_str(),
     };
     let outcome = run_on(rt.alloc(), COST, texts, NO_FAILURE)?;
-    let line = "grd: limit: more than 100000 states near goal 2\n";
+    let line = "grd: limit: more than 100000 states near goal 3\n";
     expect(&rt, COST, &outcome, 4, "", line);
+    Ok(())
+}
+
+// The states from which nothing leads on have no level.
+#[test]
+fn dead_ends_are_not_counted(rt: HostRuntime) -> Result<(), Fail> {
+    let domain = traps(rt.alloc())?;
+    let texts = Texts {
+        domain: domain.as_str(),
+        problem: "(define (problem p) (:domain traps) (:init (at0)) (:goal (and <hypothesis>)))",
+        goals: "(atl)",
+    };
+    let words = "cost --domain d --problem p --goals g --max-states 4";
+    let outcome = run_on(rt.alloc(), words, texts, NO_FAILURE)?;
+    let report = "goals 1\ngoal 1 cost 3 (a) (b) (l)\n";
+    expect(&rt, words, &outcome, 0, report, "");
     Ok(())
 }
 

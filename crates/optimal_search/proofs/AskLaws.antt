@@ -1,5 +1,5 @@
 -- What the search for a path and the search for a cost find of a task.
-use Rattle.std.proofs.Common.{◌≡◌, ℕ, zero, suc, ◌*◌, ◌<◌, ◌≤◌, ◌⊎◌, inl, inr, Vec, Global, Result, Ok, Err, Bool, false, ◌||◌, List, [], ◌∷◌, length, map, refl, sym, ap, subst, ◌∙◌, arith, Option, Some, None}
+use Rattle.std.proofs.Common.{◌≡◌, ℕ, zero, suc, ◌*◌, ◌<◌, ◌≤◌, ◌⊎◌, inl, inr, Vec, Global, Result, Ok, Err, false, ◌||◌, List, [], ◌∷◌, length, map, refl, sym, ap, subst, ◌∙◌, arith, Option, Some, None}
 use Rattle.std.specs.Prelude.{All, Contains, IfNone, IsTrue, IsSomeAnd, IsErrAnd}
 use Rattle.std.proofs.lemmas.Bool.{ne_eqb}
 use Rattle.std.proofs.lemmas.List.Elements.{All-weaker, All-nil, All-head, All-tail}
@@ -21,14 +21,15 @@ use Rattle.search_core.specs.Answers.{IsDonePath, rows_of as rows_in, HasStartRo
 use Rattle.search_core.specs.Tables.{AreRefuted, AreCounted, HasRow, HasNeverRow}
 use Rattle.cost_certificate.specs.Rows.{PlainRow}
 use Rattle.cost_certificate.specs.Tables.{IsValidTable, IsSoundRow, RowsHold, IsAtMost, Refutes, HasRow as HasTableRow}
-use Rattle.optimal_search.specs.Space.{successors_of}
+use Rattle.optimal_search.specs.Space.{successors_of, holds_in, level_in}
+use Rattle.optimal_search.specs.Floors.{shows_level}
 use Rattle.optimal_search.specs.Rows.{row_of}
-use Rattle.strips_model.specs.Reached.{IsWithinSteps, IsReachedWithout}
+use Rattle.strips_model.specs.Reached.{IsNearWithin, IsNearWithout}
 use Rattle.optimal_search.specs.Least.{IsFar, RefuteFewer, AreTooMany}
 use Rattle.optimal_search.specs.Oracles.{PlainOracle, IsAlike, IsSoundOracle, HasStartRow}
-use Rattle.optimal_search.proofs.SpaceLaws.{IsState, walk_leads, reaches_done, more_within}
+use Rattle.optimal_search.proofs.SpaceLaws.{IsState, walk_leads, reaches_done, more_near}
 use Rattle.cost_certificate.proofs.OrderLemmas.{at_most_along}
-use Rattle.optimal_search.proofs.RowLaws.{shows_zero, rows_within, rows_valid, has_row, has_never}
+use Rattle.optimal_search.proofs.RowLaws.{rows_state, rows_valid, has_row, has_never}
 
 -- no number from the bound on is in a list of atoms below the bound
 none_above : (bound : ℕ) (xs : List AtomId) → All (λ a. a.0 < bound) xs → (n : ℕ) → bound ≤ n → set_of xs n ≡ false
@@ -87,26 +88,23 @@ asked t g removed limit = record { task = t; goal = g; removed = removed; limit 
 -- rows that refute each path of at most r steps from the state, of what the oracle is asked about
 pub record RefuteWithin {W : ℕ} {M : Type 0} (o : PlainOracle) (s : Bits W) (r : ℕ) (rows : List (KeptRow (Bits W) M)) : Type 0 where
   pub over : All (λ row. IsOver o.task (members row.state)) rows
-  pub valid : IsValidTable o.task o.goal o.removed (map (row_of o.task) rows)
-  pub row : HasTableRow (map (row_of o.task) rows) (members s) (Steps r)
+  pub valid : IsValidTable o.task o.goal o.removed (map (row_of o.task o.goal o.removed) rows)
+  pub row : HasTableRow (map (row_of o.task o.goal o.removed) rows) (members s) (Steps r)
 
 -- the cost of the goal, with rows that refute less
 pub record AreOfCost {W : ℕ} {M : Type 0} (o : PlainOracle) (least : Option ℕ) (rows : List (KeptRow (Bits W) M)) : Type 0 where
   pub cost : IsCost o.task o.goal o.removed least
-  pub start : HasStartRow o.task (map (row_of o.task) rows) least
+  pub start : HasStartRow o.task (map (row_of o.task o.goal o.removed) rows) least
   pub over : All (λ row. IsOver o.task (members row.state)) rows
-  pub valid : IsValidTable o.task o.goal o.removed (map (row_of o.task) rows)
+  pub valid : IsValidTable o.task o.goal o.removed (map (row_of o.task o.goal o.removed) rows)
 
 -- a row with `Never` serves for each number
 from_never : (rows : List PlainRow) (s : State) (r : ℕ) → HasTableRow rows s Never → HasTableRow rows s (Steps r)
 from_never rows s r (k, row, within, at, (same, low)) = (k, row, within, at, (same, at_most_along (Steps r) Never row.bound tt low))
 
 module _ {W : ℕ} (t : PlainTask) (g : GoalId) (removed : List ActionId) (is : IsTask t) (wide : t.atoms ≤ 64 * W) (s : Bits W) (state : IsState t s) where
-  abbrev done : Bits W → Bool
-  done x = goal_holds t g (members x)
-
   -- a path to a done state leads to the goal
-  pub path_reaches : (r limit : ℕ) (path : List ActionId) → IsDonePath (successors_of t removed) done s r limit path → Reaches t g removed (members s) path
+  pub path_reaches : (r limit : ℕ) (path : List ActionId) → IsDonePath (successors_of t removed) (holds_in t g) s r limit path → Reaches t g removed (members s) path
   path_reaches r limit path is_path =
       let leads = is_path.leads in
       let run : after t removed (members s) path ≡ Some (members is_path.end) =
@@ -114,101 +112,103 @@ module _ {W : ℕ} (t : PlainTask) (g : GoalId) (removed : List ActionId) (is : 
       subst (λ (o : Option State). IsSomeAnd o (λ u. IsTrue (goal_holds t g u))) (sym run) is_path.done
 
   -- where it is the shortest, its length is the distance from the start
-  pub path_cost : (limit : ℕ) (path : List ActionId) → members s ≡ start_of t → IsDonePath (successors_of t removed) done s (length path) limit path
-      → IsFar (successors_of t removed) done s (length path) → IsCost t g removed (Some (length path))
+  pub path_cost : (limit : ℕ) (path : List ActionId) → members s ≡ start_of t → IsDonePath (successors_of t removed) (holds_in t g) s (length path) limit path
+      → IsFar (successors_of t removed) (holds_in t g) s (length path) → IsCost t g removed (Some (length path))
   path_cost limit path same is_path far =
       let Reached : State → List ActionId → Type 0 = λ x p. Reaches t g removed x p in (
         (path, refl, subst (λ (x : State). Reached x path) same (path_reaches (length path) limit path is_path)),
         λ p reaches. far (length p) (reaches_done t removed is wide g s p state (subst (λ (x : State). Reached x p) (sym same) reaches)),
       )
 
-  pub never_cost : members s ≡ start_of t → ((n : ℕ) → IsDoneWithin (successors_of t removed) done s n → ⊥) → IsCost t g removed None
+  pub never_cost : members s ≡ start_of t → ((n : ℕ) → IsDoneWithin (successors_of t removed) (holds_in t g) s n → ⊥) → IsCost t g removed None
   never_cost same never = λ p reaches. never (length p) (reaches_done t removed is wide g s p state (subst (λ (x : State). Reaches t g removed x p) (sym same) reaches))
 
-  -- where too many states count for a number of steps that the goal costs at least, too many are reached
-  pub too_many : (limit : ℕ) → members s ≡ start_of t → AreTooMany (successors_of t removed) done (λ _. Some 0) s limit → MoreThan limit (IsReachedWithout t g removed)
-  too_many limit same (r, more, far) = more_weaker limit (IsWithinSteps t removed (members s) r) (IsReachedWithout t g removed) reached (more_within t removed is wide s r limit state more)
+  -- where too many states count for a number of steps that the goal costs at least, too many are near
+  pub too_many : (limit : ℕ) → members s ≡ start_of t → AreTooMany (successors_of t removed) (holds_in t g) (level_in t g removed) s limit → MoreThan limit (IsNearWithout t g removed)
+  too_many limit same (r, more, far) = more_weaker limit (IsNearWithin t g removed (members s) r) (IsNearWithout t g removed) reached (more_near t removed is wide g s r limit state more)
     where
-      reached : (u : State) → IsWithinSteps t removed (members s) r u → IsReachedWithout t g removed u
+      reached : (u : State) → IsNearWithin t g removed (members s) r u → IsNearWithout t g removed u
       reached u near = record {
         path = near.path;
         leads = subst (λ (x : State). after t removed x near.path ≡ Some u) same near.leads;
+        level = near.level;
+        level_is = near.level_is;
         within = λ c (some, none).
             let lower : r ≤ length some.0 = far (length some.0) (reaches_done t removed is wide g s some.0 state (subst (λ (x : State). Reaches t g removed x some.0) (sym same) some.2)) in
-            omega (arith, lower, near.short, some.1);
+            omega (arith, lower, near.near, some.1);
       }
 
-  module _ {M : Type 0} (rows : List (KeptRow (Bits W) M)) (refuted : AreRefuted (successors_of t removed) done shows_zero rows) where
+  module _ {M : Type 0} (rows : List (KeptRow (Bits W) M)) where
     -- the rows of a search are of states of the task
-    states_of : (r limit : ℕ) → AreCounted (successors_of t removed) (λ _. Some 0) s r limit rows → All (λ row. IsState t row.state) rows
-    states_of r limit counted =
-        All-weaker (λ row. IsState t row.state × IsWithinSteps t removed (members s) r (members row.state)) (λ row. IsState t row.state) (λ row both. both.0) rows (rows_within t g removed is wide rows refuted s r limit state counted)
+    states_of : (r limit : ℕ) → AreCounted (successors_of t removed) (level_in t g removed) s r limit rows → All (λ row. IsState t row.state) rows
+    states_of r limit counted = rows_state t g removed is wide rows s r limit state counted
 
-    pub rows_over : (r limit : ℕ) → AreCounted (successors_of t removed) (λ _. Some 0) s r limit rows → All (λ row. IsOver t (members row.state)) rows
+    pub rows_over : (r limit : ℕ) → AreCounted (successors_of t removed) (level_in t g removed) s r limit rows → All (λ row. IsOver t (members row.state)) rows
     rows_over r limit counted = All-weaker (λ row. IsState t row.state) (λ row. IsOver t (members row.state)) (λ row of. of.over) rows (states_of r limit counted)
 
-    pub rows_table : (r limit : ℕ) → AreCounted (successors_of t removed) (λ _. Some 0) s r limit rows → IsValidTable t g removed (map (row_of t) rows)
-    rows_table r limit counted = rows_valid t g removed is wide rows refuted (states_of r limit counted)
+    pub rows_table : (r limit : ℕ) → AreRefuted (successors_of t removed) (holds_in t g) (shows_level t g removed) rows → AreCounted (successors_of t removed) (level_in t g removed) s r limit rows
+        → IsValidTable t g removed (map (row_of t g removed) rows)
+    rows_table r limit refuted counted = rows_valid t g removed is wide rows (states_of r limit counted) refuted
 
-    pub table_row : (r limit n : ℕ) → AreCounted (successors_of t removed) (λ _. Some 0) s r limit rows → HasRow rows s n → HasTableRow (map (row_of t) rows) (members s) (Steps n)
-    table_row r limit n counted = has_row t g removed is wide rows refuted s n (states_of r limit counted)
+    pub table_row : (r limit n : ℕ) → AreCounted (successors_of t removed) (level_in t g removed) s r limit rows → HasRow rows s n → HasTableRow (map (row_of t g removed) rows) (members s) (Steps n)
+    table_row r limit n counted = has_row t g removed is wide rows s n (states_of r limit counted)
 
-    pub table_never : (r limit : ℕ) → AreCounted (successors_of t removed) (λ _. Some 0) s r limit rows → HasNeverRow rows s → HasTableRow (map (row_of t) rows) (members s) Never
-    table_never r limit counted = has_never t g removed is wide rows refuted s (states_of r limit counted)
+    pub table_never : (r limit : ℕ) → AreCounted (successors_of t removed) (level_in t g removed) s r limit rows → HasNeverRow rows s → HasTableRow (map (row_of t g removed) rows) (members s) Never
+    table_never r limit counted = has_never t g removed is wide rows s (states_of r limit counted)
 
   module _ (limit : ℕ) where
     -- the rows of an answer other than a path
     pub no_rows : {M : Type 0} (r : ℕ) (answer : WithinAnswer (Bits W) M) (rows : Vec (KeptRow (Bits W) M) Global) → (answer ≡ found.No rows) ⊎ (answer ≡ found.Never rows)
-        → AreRefuted (successors_of t removed) done shows_zero (rows_in answer) → HasAnswerRow s r answer → AreCounted (successors_of t removed) (λ _. Some 0) s r limit (rows_in answer)
+        → AreRefuted (successors_of t removed) (holds_in t g) (shows_level t g removed) (rows_in answer) → HasAnswerRow s r answer → AreCounted (successors_of t removed) (level_in t g removed) s r limit (rows_in answer)
         → RefuteWithin (asked t g removed limit) s r rows.items
     no_rows {M} r answer rows (inl is_no) refuted there counted =
-        let refuted_by = subst (λ (x : WithinAnswer (Bits W) M). AreRefuted (successors_of t removed) done shows_zero (rows_in x)) is_no refuted in
-        let counted_by = subst (λ (x : WithinAnswer (Bits W) M). AreCounted (successors_of t removed) (λ _. Some 0) s r limit (rows_in x)) is_no counted in
+        let refuted_by = subst (λ (x : WithinAnswer (Bits W) M). AreRefuted (successors_of t removed) (holds_in t g) (shows_level t g removed) (rows_in x)) is_no refuted in
+        let counted_by = subst (λ (x : WithinAnswer (Bits W) M). AreCounted (successors_of t removed) (level_in t g removed) s r limit (rows_in x)) is_no counted in
         record {
-          over = rows_over rows.items refuted_by r limit counted_by;
-          valid = rows_table rows.items refuted_by r limit counted_by;
-          row = table_row rows.items refuted_by r limit r counted_by (subst (λ (x : WithinAnswer (Bits W) M). HasAnswerRow s r x) is_no there);
+          over = rows_over rows.items r limit counted_by;
+          valid = rows_table rows.items r limit refuted_by counted_by;
+          row = table_row rows.items r limit r counted_by (subst (λ (x : WithinAnswer (Bits W) M). HasAnswerRow s r x) is_no there);
         }
     no_rows {M} r answer rows (inr is_never) refuted there counted =
-        let refuted_by = subst (λ (x : WithinAnswer (Bits W) M). AreRefuted (successors_of t removed) done shows_zero (rows_in x)) is_never refuted in
-        let counted_by = subst (λ (x : WithinAnswer (Bits W) M). AreCounted (successors_of t removed) (λ _. Some 0) s r limit (rows_in x)) is_never counted in
+        let refuted_by = subst (λ (x : WithinAnswer (Bits W) M). AreRefuted (successors_of t removed) (holds_in t g) (shows_level t g removed) (rows_in x)) is_never refuted in
+        let counted_by = subst (λ (x : WithinAnswer (Bits W) M). AreCounted (successors_of t removed) (level_in t g removed) s r limit (rows_in x)) is_never counted in
         record {
-          over = rows_over rows.items refuted_by r limit counted_by;
-          valid = rows_table rows.items refuted_by r limit counted_by;
-          row = from_never (map (row_of t) rows.items) (members s) r (table_never rows.items refuted_by r limit counted_by (subst (λ (x : WithinAnswer (Bits W) M). HasAnswerRow s r x) is_never there));
+          over = rows_over rows.items r limit counted_by;
+          valid = rows_table rows.items r limit refuted_by counted_by;
+          row = from_never (map (row_of t g removed) rows.items) (members s) r (table_never rows.items r limit counted_by (subst (λ (x : WithinAnswer (Bits W) M). HasAnswerRow s r x) is_never there));
         }
 
     -- the cost where there is a shortest path
-    pub path_rows : {M : Type 0} (path : List ActionId) (rows : List (KeptRow (Bits W) M)) → members s ≡ start_of t → IsDonePath (successors_of t removed) done s (length path) limit path
-        → IsFar (successors_of t removed) done s (length path) → RefuteFewer (successors_of t removed) done (λ _. Some 0) shows_zero s limit (length path) rows
+    pub path_rows : {M : Type 0} (path : List ActionId) (rows : List (KeptRow (Bits W) M)) → members s ≡ start_of t → IsDonePath (successors_of t removed) (holds_in t g) s (length path) limit path
+        → IsFar (successors_of t removed) (holds_in t g) s (length path) → RefuteFewer (successors_of t removed) (holds_in t g) (level_in t g removed) (shows_level t g removed) s limit (length path) rows
         → AreOfCost (asked t g removed limit) (Some (length path)) rows
     path_rows {M} path rows same is_path far fewer = by (length path) (path_cost limit path same is_path far) fewer
       where
-        by : (n : ℕ) → IsCost t g removed (Some n) → RefuteFewer (successors_of t removed) done (λ _. Some 0) shows_zero s limit n rows
+        by : (n : ℕ) → IsCost t g removed (Some n) → RefuteFewer (successors_of t removed) (holds_in t g) (level_in t g removed) (shows_level t g removed) s limit n rows
             → AreOfCost (asked t g removed limit) (Some n) rows
         by zero cost none = record {
           cost = cost;
           start = tt;
           over = subst (λ (xs : List (KeptRow (Bits W) M)). All (λ row. IsOver t (members row.state)) xs) (sym none) (All-nil (λ (row : KeptRow (Bits W) M). IsOver t (members row.state)));
-          valid = subst (λ (xs : List (KeptRow (Bits W) M)). IsValidTable t g removed (map (row_of t) xs)) (sym none) (record {
+          valid = subst (λ (xs : List (KeptRow (Bits W) M)). IsValidTable t g removed (map (row_of t g removed) xs)) (sym none) (record {
             sound = All-nil (λ (row : PlainRow). IsSoundRow t g removed row);
             supported = All-nil (λ (row : PlainRow). RowsHold t removed [] row row.why);
           });
         }
         by (suc r) cost (refuted, there, counted) = record {
           cost = cost;
-          start = subst (λ (x : State). HasTableRow (map (row_of t) rows) x (Steps r)) same (table_row rows refuted r limit r counted there);
-          over = rows_over rows refuted r limit counted;
-          valid = rows_table rows refuted r limit counted;
+          start = subst (λ (x : State). HasTableRow (map (row_of t g removed) rows) x (Steps r)) same (table_row rows r limit r counted there);
+          over = rows_over rows r limit counted;
+          valid = rows_table rows r limit refuted counted;
         }
 
     -- and where there is none
-    pub never_rows : {M : Type 0} (rows : List (KeptRow (Bits W) M)) → members s ≡ start_of t → ((n : ℕ) → IsDoneWithin (successors_of t removed) done s n → ⊥)
-        → AreRefuted (successors_of t removed) done shows_zero rows → HasNeverRow rows s → ((r : ℕ) × AreCounted (successors_of t removed) (λ _. Some 0) s r limit rows)
+    pub never_rows : {M : Type 0} (rows : List (KeptRow (Bits W) M)) → members s ≡ start_of t → ((n : ℕ) → IsDoneWithin (successors_of t removed) (holds_in t g) s n → ⊥)
+        → AreRefuted (successors_of t removed) (holds_in t g) (shows_level t g removed) rows → HasNeverRow rows s → ((r : ℕ) × AreCounted (successors_of t removed) (level_in t g removed) s r limit rows)
         → AreOfCost (asked t g removed limit) None rows
     never_rows rows same never refuted there (r, counted) = record {
       cost = never_cost same never;
-      start = subst (λ (x : State). HasTableRow (map (row_of t) rows) x Never) same (table_never rows refuted r limit counted there);
-      over = rows_over rows refuted r limit counted;
-      valid = rows_table rows refuted r limit counted;
+      start = subst (λ (x : State). HasTableRow (map (row_of t g removed) rows) x Never) same (table_never rows r limit counted there);
+      over = rows_over rows r limit counted;
+      valid = rows_table rows r limit refuted counted;
     }

@@ -61,12 +61,11 @@ module _ {S : Type 0} (next : Successors S) (is_done : S → Bool) (start : S) w
   path_later low later limit None far good = good
   path_later low later limit (Some path) far good = (good.0, far _ (done_by_path _ _ _ good.0))
 
-module _ {S M : Type 0} (next : Successors S) (is_done : S → Bool) (level : S → Option ℕ) (shows : S → M → Bound → Type 0) (start : S) (limit : ℕ) where
-  -- where marks show no number but 0, a refused number of steps is below the limit
-  pub below_limit : (r : ℕ) → ((s : S) (mark : M) (bound : Bound) → shows s mark bound → bound ≡ Steps 0) → IsBeyond {M = M} next shows start r limit → r + 1 ≤ limit
-  below_limit r only_zero beyond =
-      let none : beyond.number ≡ 0 = same_number _ _ (only_zero _ _ _ beyond.shown) in
-      omega (arith, beyond.exceeds, beyond.within_limit)
+module _ {S M : Type 0} (next : Successors S) (is_done : S → Bool) (level : S → Option ℕ) (shows : S → M → Bound → Type 0) (start : S) (limit last : ℕ) where
+  -- where the limit and any number that a mark shows come to at most `last`, a refused number of steps
+  -- is below it
+  pub below_last : (r : ℕ) → ((s : S) (mark : M) (n : ℕ) → shows s mark (Steps n) → limit + n ≤ last) → IsBeyond {M = M} next shows start r limit → r + 1 ≤ last
+  below_last r shown beyond = omega (arith, beyond.exceeds, beyond.within_limit, shown _ _ _ beyond.shown)
 
   -- rows that refute r steps refute fewer than one more
   pub refute_next : (low r : ℕ) (rows : List (KeptRow S M)) → low ≡ r + 1 → AreRefuted next is_done shows rows → HasRow rows start r → AreCounted next level start r limit rows
@@ -82,53 +81,53 @@ module _ {S M : Type 0} (next : Successors S) (is_done : S → Bool) (level : S 
       (subst (λ low. RefuteFewer next is_done level shows start limit low known) (sym low) refuted)
 
   -- what is known before the first pass
-  pub known_first : (known : Known S M) → known.low ≡ 0 → known.path ≡ None → known.rows.items ≡ [] → IsKnown next is_done level shows start limit known
+  pub known_first : (known : Known S M) → known.low ≡ 0 → known.path ≡ None → known.rows.items ≡ [] → IsKnown next is_done level shows start limit last known
   known_first known low path rows = record {
     far = λ k done. omega (arith, low);
     refuted = subst (λ low. RefuteFewer next is_done level shows start limit low known.rows.items) (sym low) rows;
-    within_limit = omega (arith, low);
+    within_last = omega (arith, low);
     path = subst (λ path. HasGoodPath next is_done start known.low limit path) (sym path) tt;
   }
 
   -- what is known after a path was found
-  pub known_found : (old new : Known S M) (r : ℕ) (path : Vec ActionId Global) → IsKnown next is_done level shows start limit old → IsDonePath next is_done start r limit path.items
-      → new.low ≡ old.low → new.rows.items ≡ old.rows.items → new.path ≡ Some path → IsKnown next is_done level shows start limit new
+  pub known_found : (old new : Known S M) (r : ℕ) (path : Vec ActionId Global) → IsKnown next is_done level shows start limit last old → IsDonePath next is_done start r limit path.items
+      → new.low ≡ old.low → new.rows.items ≡ old.rows.items → new.path ≡ Some path → IsKnown next is_done level shows start limit last new
   known_found old new r path known done low rows is =
       let far : IsFar next is_done start new.low = λ k done. omega (arith, low, known.far k done) in
       record {
         far = far;
         refuted = refute_alike _ _ _ _ low rows known.refuted;
-        within_limit = omega (arith, low, known.within_limit);
+        within_last = omega (arith, low, known.within_last);
         path =
             subst (λ path. HasGoodPath next is_done start new.low limit path) (sym is)
             (as_short next is_done start r limit path.items done, far _ (done_by_path next is_done start r limit path.items done));
       }
 
   -- what is known where the path stays the same
-  pub known_on : (old new : Known S M) → IsKnown next is_done level shows start limit old → new.path ≡ old.path → IsFar next is_done start new.low
-      → RefuteFewer next is_done level shows start limit new.low new.rows.items → new.low ≤ limit → IsKnown next is_done level shows start limit new
+  pub known_on : (old new : Known S M) → IsKnown next is_done level shows start limit last old → new.path ≡ old.path → IsFar next is_done start new.low
+      → RefuteFewer next is_done level shows start limit new.low new.rows.items → new.low ≤ last → IsKnown next is_done level shows start limit last new
   known_on old new known path far refuted below = record {
     far = far;
     refuted = refuted;
-    within_limit = below;
+    within_last = below;
     path = subst (λ path. HasGoodPath next is_done start new.low limit path) (sym path) (path_later next is_done start old.low new.low limit old.path far known.path);
   }
 
   -- what is known after r steps were refuted
-  pub known_raised : (old new : Known S M) (r : ℕ) → IsKnown next is_done level shows start limit old → (IsDoneWithin next is_done start r → ⊥) → r + 1 ≤ limit
+  pub known_raised : (old new : Known S M) (r : ℕ) → IsKnown next is_done level shows start limit last old → (IsDoneWithin next is_done start r → ⊥) → r + 1 ≤ last
       → AreRefuted next is_done shows new.rows.items → HasRow new.rows.items start r → AreCounted next level start r limit new.rows.items
-      → new.low ≡ r + 1 → new.path ≡ old.path → IsKnown next is_done level shows start limit new
+      → new.low ≡ r + 1 → new.path ≡ old.path → IsKnown next is_done level shows start limit last new
   known_raised old new r known none below refuted row counted low path =
       known_on old new known path (far_next next is_done start new.low r low none) (refute_next new.low r new.rows.items low refuted row counted) (omega (arith, low))
 
   -- what is known where the next pass looks less far
-  pub known_alike : (old new : Known S M) → IsKnown next is_done level shows start limit old → new.low ≡ old.low → new.path ≡ old.path → new.rows.items ≡ old.rows.items
-      → IsKnown next is_done level shows start limit new
+  pub known_alike : (old new : Known S M) → IsKnown next is_done level shows start limit last old → new.low ≡ old.low → new.path ≡ old.path → new.rows.items ≡ old.rows.items
+      → IsKnown next is_done level shows start limit last new
   known_alike old new known low path rows =
-      known_on old new known path (λ k done. omega (arith, low, known.far k done)) (refute_alike _ _ _ _ low rows known.refuted) (omega (arith, low, known.within_limit))
+      known_on old new known path (λ k done. omega (arith, low, known.far k done)) (refute_alike _ _ _ _ low rows known.refuted) (omega (arith, low, known.within_last))
 
   -- a path that has no more steps than those below which none lies is a shortest one
-  pub least_path : (known : Known S M) (path : Vec ActionId Global) → IsKnown next is_done level shows start limit known → known.path ≡ Some path
+  pub least_path : (known : Known S M) (path : Vec ActionId Global) → IsKnown next is_done level shows start limit last known → known.path ≡ Some path
       → IsSomeAnd known.path (λ path. length path.items ≤ known.low) → IsLeast next is_done level shows start limit (found.Path path known.rows)
   least_path known path is here settled =
       let short : length path.items ≤ known.low = subst (λ path. IsSomeAnd path (λ path. length path.items ≤ known.low)) here settled in

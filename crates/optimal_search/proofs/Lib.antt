@@ -1,6 +1,5 @@
 mod StepLaws
 pub mod SpaceLaws
-mod ListLaws
 mod RowLaws
 mod OracleLaws
 mod KeptLaws

@@ -52,7 +52,7 @@ rows_grow : (t : PlainTask) (removed : List ActionId) (old new : List PlainRow) 
 rows_grow t removed old new all row (Cuts sets) hold = tt
 rows_grow t removed old new all row BySteps hold = steps_grow t removed old new all (set_of row.state) row.bound hold
 
-module _ {W : ℕ} {M : Type 0} (t : PlainTask) (old new : List PlainRow) (rows : List (KeptRow (Bits W) M)) (keeps : KeepsRows t old new rows) where
+module _ {W : ℕ} {M : Type 0} (t : PlainTask) (g : GoalId) (removed : List ActionId) (old new : List PlainRow) (rows : List (KeptRow (Bits W) M)) (keeps : KeepsRows t g removed old new rows) where
   -- the new rows have all of the old ones
   pub old_in_new : HasAllOf old new
   old_in_new s bound (k, row, within, at, (is, low)) =
@@ -61,29 +61,29 @@ module _ {W : ℕ} {M : Type 0} (t : PlainTask) (old new : List PlainRow) (rows 
       row_under new row h.0 s bound h.1 h.2 h.3 is low
 
   -- and all of those that were to be kept
-  pub rows_in_new : HasAllOf (map (row_of t) rows) new
+  pub rows_in_new : HasAllOf (map (row_of t g removed) rows) new
   rows_in_new s bound (k, row, within, at, (is, low)) =
-      let from = Contains-from_map (row_of t) rows row (k, within, at) in
+      let from = Contains-from_map (row_of t g removed) rows row (k, within, at) in
       let kept = from.1 in
-      let h = All-contains (λ x. (higher : PlainRow) × Contains new higher × (higher.state ≡ (row_of t x).state) × IsAtMost x.bound higher.bound) rows kept keeps.held (from.0, from.2, from.3) in
-      let same : row_of t kept ≡ row = from.4 in
-      row_under new (row_of t kept) h.0 s bound h.1 h.2 h.3 (ap (λ (r : PlainRow). set_of r.state) same ∙ is) (let P : PlainRow → Type 0 = λ r. IsAtMost bound r.bound in subst P (sym same) low)
+      let h = All-contains (λ x. (higher : PlainRow) × Contains new higher × (higher.state ≡ (row_of t g removed x).state) × IsAtMost x.bound higher.bound) rows kept keeps.held (from.0, from.2, from.3) in
+      let same : row_of t g removed kept ≡ row = from.4 in
+      row_under new (row_of t g removed kept) h.0 s bound h.1 h.2 h.3 (ap (λ (r : PlainRow). set_of r.state) same ∙ is) (let P : PlainRow → Type 0 = λ r. IsAtMost bound r.bound in subst P (sym same) low)
 
   -- each new row is one of the old or one of those that were to be kept
-  from_either : (P : PlainRow → Type 0) → All P old → All P (map (row_of t) rows) → All P new
+  from_either : (P : PlainRow → Type 0) → All P old → All P (map (row_of t g removed) rows) → All P new
   from_either P olds adds = All-from_contains P new (λ row there. elim (keeps.from row there) as (λ _. P row) [
     | inl among ↦ All-contains P old row olds among
-    | inr among ↦ subst P among.4 (All-contains P (map (row_of t) rows) (row_of t among.1) adds (Contains-map (row_of t) rows among.1 (among.0, among.2, among.3)))
+    | inr among ↦ subst P among.4 (All-contains P (map (row_of t g removed) rows) (row_of t g removed among.1) adds (Contains-map (row_of t g removed) rows among.1 (among.0, among.2, among.3)))
   ])
 
   -- valid tables grow to a valid table
-  pub valid_grown : (g : GoalId) (removed : List ActionId) → IsValidTable t g removed old → IsValidTable t g removed (map (row_of t) rows) → IsValidTable t g removed new
-  valid_grown g removed is adds = record {
+  pub valid_grown : IsValidTable t g removed old → IsValidTable t g removed (map (row_of t g removed) rows) → IsValidTable t g removed new
+  valid_grown is adds = record {
     sound = from_either (IsSoundRow t g removed) is.sound adds.sound;
     supported = from_either (λ row. RowsHold t removed new row row.why)
         (All-weaker (λ row. RowsHold t removed old row row.why) (λ row. RowsHold t removed new row row.why) (λ row hold. rows_grow t removed old new old_in_new row row.why hold) old is.supported)
-        (All-weaker (λ row. RowsHold t removed (map (row_of t) rows) row row.why) (λ row. RowsHold t removed new row row.why)
-        (λ row hold. rows_grow t removed (map (row_of t) rows) new rows_in_new row row.why hold) (map (row_of t) rows) adds.supported);
+        (All-weaker (λ row. RowsHold t removed (map (row_of t g removed) rows) row row.why) (λ row. RowsHold t removed new row row.why)
+        (λ row hold. rows_grow t removed (map (row_of t g removed) rows) new rows_in_new row row.why hold) (map (row_of t g removed) rows) adds.supported);
   }
 
 -- a row for the start stays one where the rows grow

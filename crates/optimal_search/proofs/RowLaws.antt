@@ -1,12 +1,11 @@
--- The rows of a search over a task: none has a mark, where the floor shows 0 alone, and they make a valid
--- table of rows by steps.
-use Rattle.std.proofs.Common.{◌≡◌, ℕ, zero, suc, ◌*◌, ◌≤◌, List, [], ◌∷◌, map, get_or, ap, sym, refl, ◌∙◌, arith, Option, Some, None}
-use mathlib.Core.Path.{subst}
+-- The rows of a search over a task: they make a valid table. A row with a mark has the family of its level,
+-- which suffices for each bound below the one that the mark shows; the others are rows by steps.
+use Rattle.std.proofs.Common.{◌≡◌, Bool, true, false, ℕ, zero, suc, ◌*◌, ◌≤◌, List, [], ◌∷◌, length, map, get_or, ap, sym, refl, ◌∙◌, inl, inr, arith, Option, Some, None}
+use mathlib.Core.Path.{subst, ap₂}
 use Rattle.std.specs.Prelude.{All, Any, Contains, MatchOption}
 use Rattle.std.specs.Option.{option_and_then}
 use Rattle.std.proofs.lemmas.List.{length-map, get_or-map}
 use Rattle.std.proofs.lemmas.List.Elements.{All-head, All-tail, All-weaker, All-map, All-contains}
-use Rattle.std.proofs.lemmas.Option.{MatchOption-at_none}
 use Rattle.grd_base.specs.declared.bits.Bits.{Bits}
 use Rattle.grd_base.specs.declared.ids.ActionId.{ActionId}
 use Rattle.grd_base.specs.declared.ids.GoalId.{GoalId}
@@ -15,40 +14,20 @@ use Rattle.grd_base.specs.declared.limits.Bound.TheVariants.{Steps, Never}
 use Rattle.grd_base.specs.Bits.{members}
 use Rattle.strips_model.specs.Values.{PlainTask, IsTask}
 use Rattle.strips_model.specs.Plans.{State, set_of, after, step_without, goal_holds}
+use Rattle.strips_model.specs.StateLists.{atoms_in}
+use Rattle.strips_model.specs.Cuts.{IsFamily}
+use Rattle.strips_model.proofs.StateListLemmas.{atoms_have, are_atoms}
 use Rattle.search_core.specs.declared.rows.KeptRow.{KeptRow}
-use Rattle.search_core.specs.Spaces.{IsWalk, end_of, actions_of, IsAtLeast, IsAbove, Counts}
-use Rattle.search_core.specs.Tables.{IsRefuted, IsRefutedBySteps, IsRefutedByMark, AreRefuted, AreCounted, HasRow, HasNeverRow, unmarked, with_unmarked}
-use Rattle.cost_certificate.specs.Tables.{IsAtMost, IsSoundRow, RowsHold, StepsHold, IsValidTable, HasRow as HasTableRow}
-use Rattle.optimal_search.specs.Space.{successors_of}
-use Rattle.optimal_search.specs.Rows.{row_of}
-use Rattle.strips_model.specs.Reached.{IsWithinSteps}
-use Rattle.optimal_search.proofs.SpaceLaws.{IsState, leads_walk, counts_within}
-use Rattle.optimal_search.proofs.ListLaws.{atoms_have}
-
--- the number 0 is all that is shown
-abbrev pub shows_zero : {S M : Type 0} → S → M → Bound → Type 0
-shows_zero s mark bound = bound ≡ Steps 0
-
--- no number is below 0
-none_above : (shown : Bound) (n : ℕ) → shown ≡ Steps 0 → IsAbove shown n → ⊥
-none_above (Steps m) n e above = let same : m ≡ 0 = cc in omega (arith, above, same)
-none_above Never n e above = cc
-
--- a mark that shows 0 alone refutes no row
-no_mark : {M : Type 0} (mark : M) (bound : Bound) → IsRefutedByMark (λ (m : M) shown. shown ≡ Steps 0) mark bound → ⊥
-no_mark mark (Steps n) by = none_above by.0 n by.1 by.2
-no_mark mark Never by = cc
-
-without_mark : {M : Type 0} (o : Option M) (P : Type 0) (bound : Bound) → MatchOption o P (λ mark. IsRefutedByMark (λ (m : M) shown. shown ≡ Steps 0) mark bound) → o ≡ None
-without_mark None P bound by = refl
-without_mark (Some mark) P bound by = absurd (no_mark mark bound by)
-
--- where no row has a mark, the states without one are the states of all rows
-unmarked_all : {S M : Type 0} (rows : List (KeptRow S M)) → All (λ row. row.mark ≡ None) rows → unmarked rows ≡ map (λ row. row.state) rows
-unmarked_all [] none = refl
-unmarked_all (row ∷ rows) none =
-    ap (λ o. with_unmarked o row.state (unmarked rows)) (All-head (λ r. r.mark ≡ None) row rows none)
-    ∙ ap (λ rest. row.state ∷ rest) (unmarked_all rows (All-tail (λ r. r.mark ≡ None) row rows none))
+use Rattle.search_core.specs.Spaces.{IsWalk, end_of, actions_of, IsAtLeast, IsReachable}
+use Rattle.search_core.specs.Tables.{IsRefutedBySteps, IsRefutedByMark, AreRefuted, AreCounted, HasRow, HasNeverRow, unmarked, with_unmarked}
+use Rattle.cost_certificate.specs.Tables.{IsAtMost, IsSoundRow, SetsHold, RowsHold, StepsHold, CutsSuffice, HasEmptyCut, IsValidTable, IsRowOver, AreSets, HasRow as HasTableRow}
+use Rattle.level_bounds.specs.Floors.{family_of}
+use Rattle.level_bounds.proofs.FamilyLaws.{family_is, family_long, family_empty, family_atoms}
+use Rattle.optimal_search.specs.Space.{successors_of, holds_in, level_in}
+use Rattle.optimal_search.specs.Floors.{shows_level}
+use Rattle.optimal_search.specs.Rows.{row_of, why_of, has_mark}
+use Rattle.optimal_search.specs.Costs.{with_state, states_by_steps}
+use Rattle.optimal_search.proofs.SpaceLaws.{IsState, leads_walk, reached_state}
 
 -- what holds of each element of a list that is made of another
 all_of_map : {X Y : Type 0} (P : Y → Type 0) (f : X → Y) (xs : List X) → All P (map f xs) → All (λ x. P (f x)) xs
@@ -72,38 +51,81 @@ at_most_never : (bound : Bound) → bound ≡ Never → IsAtMost Never bound
 at_most_never (Steps m) e = cc
 at_most_never Never e = tt
 
-module _ {W : ℕ} {M : Type 0} (t : PlainTask) (g : GoalId) (removed : List ActionId) (is : IsTask t) (wide : t.atoms ≤ 64 * W) (rows : List (KeptRow (Bits W) M))
-    (refuted : AreRefuted (successors_of t removed) (λ x. goal_holds t g (members x)) shows_zero rows) where
-  none_marked : All (λ row. row.mark ≡ None) rows
-  none_marked = All-weaker (IsRefuted (successors_of t removed) (λ x. goal_holds t g (members x)) shows_zero rows) (λ row. row.mark ≡ None)
-      (λ row is_refuted. without_mark row.mark (IsRefutedBySteps (successors_of t removed) rows row.state row.bound) row.bound is_refuted.why) rows refuted
+-- where each element is, the first of a list that is not empty is
+any_first : {X : Type 0} (P : X → Type 0) (xs : List X) → All P xs → length xs ≡ 1 → Any P xs
+any_first P [] all one = cc
+any_first P (x ∷ xs) all one = (0, x, omega arith, refl, All-head P x xs all)
 
-  pub states_unmarked : unmarked rows ≡ map (λ row. row.state) rows
-  states_unmarked = unmarked_all rows none_marked
+module _ {W : ℕ} (t : PlainTask) (g : GoalId) (removed : List ActionId) (is : IsTask t) (s : Bits W) (state : IsState t s) where
+  -- the set of the atoms of a state is the state
+  atoms_are_state : set_of (atoms_in t (members s)) ≡ members s
+  atoms_are_state = atoms_have (members s) t.atoms state.over
 
-  -- the states of the rows are reached within as many steps as were asked for
-  pub rows_within : (s : Bits W) (r limit : ℕ) → IsState t s → AreCounted (successors_of t removed) (λ _. Some 0) s r limit rows
-      → All (λ row. IsState t row.state × IsWithinSteps t removed (members s) r (members row.state)) rows
-  rows_within s r limit state counted =
-      let count : Bits W → Type 0 = Counts (successors_of t removed) (λ _. Some 0) s r in
-      All-weaker (λ row. Counts (successors_of t removed) (λ _. Some 0) s r row.state) (λ row. IsState t row.state × IsWithinSteps t removed (members s) r (members row.state))
-      (λ row counts. counts_within t removed is wide s row.state r state counts) rows
-      (all_of_map count (λ row. row.state) rows (subst (λ states. All count states) states_unmarked counted.count))
+  -- where there is no level, the family has an empty cut
+  has_empty : level_in t g removed s ≡ None → HasEmptyCut t removed (family_of t g removed (members s))
+  has_empty level =
+      let empty = family_empty t g removed (members s) is state.over level in
+      any_first _ (family_of t g removed (members s)) empty.0 empty.1
+
+  -- the cuts of the family suffice for each bound that a mark refutes
+  marks_suffice : {M : Type 0} (mark : M) (bound : Bound) → IsRefutedByMark (shows_level t g removed s) mark bound → CutsSuffice t removed (family_of t g removed (members s)) bound
+  marks_suffice mark (Steps n) (Steps m, shown, above) = inr (omega (arith, family_long t g removed (members s) is state.over m shown.level, above))
+  marks_suffice mark (Steps n) (Never, shown, above) = inl (has_empty shown.level)
+  marks_suffice mark Never shown = has_empty shown.level
+
+  -- the family is one for the set of the atoms
+  family_of_atoms : IsFamily t g removed (set_of (atoms_in t (members s))) (family_of t g removed (members s))
+  family_of_atoms = subst (λ u. IsFamily t g removed u (family_of t g removed (members s))) (sym atoms_are_state) (family_is t g removed (members s) is state.over)
+
+-- the states of rows by steps: those without a mark go before others
+states_with : {W : ℕ} {M : Type 0} (t : PlainTask) (g : GoalId) (removed : List ActionId) (mark : Option M) (s : Bits W) (u : State) (sets : List State) (others : List (Bits W)) → u ≡ members s → sets ≡ map members others
+    → with_state (why_of t g removed (members s) (has_mark mark)) u sets ≡ map members (with_unmarked mark s others)
+states_with t g removed None s u sets others here later = ap₂ ◌∷◌ here later
+states_with t g removed (Some mark) s u sets others here later = later
+
+states_of_rows : {W : ℕ} {M : Type 0} (t : PlainTask) (g : GoalId) (removed : List ActionId) (rows : List (KeptRow (Bits W) M)) → All (λ row. IsState t row.state) rows
+    → states_by_steps (map (row_of t g removed) rows) ≡ map members (unmarked rows)
+states_of_rows t g removed [] states = refl
+states_of_rows t g removed (row ∷ rest) states =
+    states_with t g removed row.mark row.state (set_of (atoms_in t (members row.state))) (states_by_steps (map (row_of t g removed) rest)) (unmarked rest)
+    (atoms_have (members row.state) t.atoms (All-head (λ r. IsState t r.state) row rest states).over) (states_of_rows t g removed rest (All-tail (λ r. IsState t r.state) row rest states))
+
+-- the sets of a row name atoms of the task
+pub why_atoms : (t : PlainTask) (g : GoalId) (removed : List ActionId) (s : State) (by_level : Bool) → AreSets t.atoms (why_of t g removed s by_level)
+why_atoms t g removed s true = family_atoms t g removed s
+why_atoms t g removed s false = tt
+
+module _ {W : ℕ} {M : Type 0} (t : PlainTask) (g : GoalId) (removed : List ActionId) (is : IsTask t) (wide : t.atoms ≤ 64 * W) (rows : List (KeptRow (Bits W) M)) where
+  -- the rows of a search from a state of the task have states of it
+  pub rows_state : (s : Bits W) (r limit : ℕ) → IsState t s → AreCounted (successors_of t removed) (level_in t g removed) s r limit rows → All (λ row. IsState t row.state) rows
+  rows_state s r limit state counted =
+      All-weaker (λ row. IsReachable (successors_of t removed) s row.state) (λ row. IsState t row.state) (λ row reached. reached_state t removed is wide s row.state state reached) rows counted.reached
 
   -- the set of a row is the row's state
-  pub set_is : (row : KeptRow (Bits W) M) → IsState t row.state → set_of (row_of t row).state ≡ members row.state
+  set_is : (row : KeptRow (Bits W) M) → IsState t row.state → set_of (row_of t g removed row).state ≡ members row.state
   set_is row state = atoms_have (members row.state) t.atoms state.over
 
   -- a row of the search is one of the table
-  pub has_row : (s : Bits W) (r : ℕ) → All (λ row. IsState t row.state) rows → HasRow rows s r → HasTableRow (map (row_of t) rows) (members s) (Steps r)
+  pub has_row : (s : Bits W) (r : ℕ) → All (λ row. IsState t row.state) rows → HasRow rows s r → HasTableRow (map (row_of t g removed) rows) (members s) (Steps r)
   has_row s r states there =
-      any_map (row_of t) (λ row. (row.state ≡ s) × IsAtLeast row.bound r) (λ row. IsState t row.state) (λ row. (set_of row.state ≡ members s) × IsAtMost (Steps r) row.bound) rows
+      any_map (row_of t g removed) (λ row. (row.state ≡ s) × IsAtLeast row.bound r) (λ row. IsState t row.state) (λ row. (set_of row.state ≡ members s) × IsAtMost (Steps r) row.bound) rows
       (λ row state has. (set_is row state ∙ ap (λ (x : Bits W). members x) has.0, at_most r row.bound has.1)) states there
 
-  pub has_never : (s : Bits W) → All (λ row. IsState t row.state) rows → HasNeverRow rows s → HasTableRow (map (row_of t) rows) (members s) Never
+  pub has_never : (s : Bits W) → All (λ row. IsState t row.state) rows → HasNeverRow rows s → HasTableRow (map (row_of t g removed) rows) (members s) Never
   has_never s states there =
-      any_map (row_of t) (λ row. (row.state ≡ s) × (row.bound ≡ Never)) (λ row. IsState t row.state) (λ row. (set_of row.state ≡ members s) × IsAtMost Never row.bound) rows
+      any_map (row_of t g removed) (λ row. (row.state ≡ s) × (row.bound ≡ Never)) (λ row. IsState t row.state) (λ row. (set_of row.state ≡ members s) × IsAtMost Never row.bound) rows
       (λ row state has. (set_is row state ∙ ap (λ (x : Bits W). members x) has.0, at_most_never row.bound has.1)) states there
+
+  -- the rows by steps have the states of the rows without a mark
+  pub states_unmarked : All (λ row. IsState t row.state) rows → states_by_steps (map (row_of t g removed) rows) ≡ map members (unmarked rows)
+  states_unmarked states = states_of_rows t g removed rows states
+
+  -- the rows name atoms of the task
+  pub rows_in_task : All (IsRowOver t) (map (row_of t g removed) rows)
+  rows_in_task =
+      let each : All (λ (row : KeptRow (Bits W) M). IsRowOver t (row_of t g removed row)) rows =
+      λ k d within. record { state = are_atoms (members (get_or rows k d).state) t.atoms; sets = why_atoms t g removed (members (get_or rows k d).state) (has_mark (get_or rows k d).mark) } in
+      All-map (IsRowOver t) (row_of t g removed) rows each
 
   -- each step of the task is one of the space
   step_of : (s : Bits W) (a : ActionId) (u : State) → IsState t s → step_without t removed (members s) a ≡ Some u
@@ -124,32 +146,41 @@ module _ {W : ℕ} {M : Type 0} (t : PlainTask) (g : GoalId) (removed : List Act
       first (step ∷ rest) steps carries ends = last step rest steps.0 (let none : actions_of rest ≡ [] = cc in none) ends
 
   -- what refutes a row of the search by steps is what a row by steps needs
-  steps_hold : All (λ row. IsState t row.state) rows → (s : Bits W) (bound : Bound) → IsState t s → IsRefutedBySteps (successors_of t removed) rows s bound → StepsHold t removed (map (row_of t) rows) (members s) bound
+  steps_hold : All (λ row. IsState t row.state) rows → (s : Bits W) (bound : Bound) → IsState t s → IsRefutedBySteps (successors_of t removed) rows s bound
+      → StepsHold t removed (map (row_of t g removed) rows) (members s) bound
   steps_hold states s (Steps zero) state by = tt
   steps_hold states s (Steps (suc n)) state by = λ a u leads.
       let next = step_of s a u state leads in
-      subst (λ v. HasTableRow (map (row_of t) rows) v (Steps n)) next.2
+      subst (λ v. HasTableRow (map (row_of t g removed) rows) v (Steps n)) next.2
       (has_row next.0.1 n states (All-contains (λ (step : ActionId × Bits W). HasRow rows step.1 n) (successors_of t removed s) next.0 by next.1))
   steps_hold states s Never state by = λ a u leads.
       let next = step_of s a u state leads in
-      subst (λ v. HasTableRow (map (row_of t) rows) v Never) next.2
+      subst (λ v. HasTableRow (map (row_of t g removed) rows) v Never) next.2
       (has_never next.0.1 states (All-contains (λ (step : ActionId × Bits W). HasNeverRow rows step.1) (successors_of t removed s) next.0 by next.1))
 
-  -- the goal does not hold in a row's state
-  row_sound : (row : KeptRow (Bits W) M) → IsState t row.state → IsRefuted (successors_of t removed) (λ x. goal_holds t g (members x)) shows_zero rows row → IsSoundRow t g removed (row_of t row)
-  row_sound row state is_refuted = record { leaves_open = ap (goal_holds t g) (set_is row state) ∙ is_refuted.not_done; sets = tt }
+  module _ (row : KeptRow (Bits W) M) (state : IsState t row.state) where
+    -- the mark refutes the row; without one, its successors do
+    abbrev RefutedBy : Option M → Type 0
+    RefutedBy mark = MatchOption mark (IsRefutedBySteps (successors_of t removed) rows row.state row.bound) (λ m. IsRefutedByMark (shows_level t g removed row.state) m row.bound)
 
-  row_supported : All (λ row. IsState t row.state) rows → (row : KeptRow (Bits W) M) → IsState t row.state → row.mark ≡ None
-      → IsRefuted (successors_of t removed) (λ x. goal_holds t g (members x)) shows_zero rows row → RowsHold t removed (map (row_of t) rows) (row_of t row) (row_of t row).why
-  row_supported states row state none is_refuted =
-      let by : IsRefutedBySteps (successors_of t removed) rows row.state row.bound =
-      MatchOption-at_none (IsRefutedBySteps (successors_of t removed) rows row.state row.bound) (λ mark. IsRefutedByMark (shows_zero row.state) mark row.bound) none is_refuted.why in
-      subst (λ s. StepsHold t removed (map (row_of t) rows) s row.bound) (sym (set_is row state)) (steps_hold states row.state row.bound state by)
+    sets_hold : (mark : Option M) → RefutedBy mark → SetsHold t g removed (row_of t g removed row) (why_of t g removed (members row.state) (has_mark mark))
+    sets_hold None by = tt
+    sets_hold (Some mark) by = (family_of_atoms t g removed is row.state state, marks_suffice t g removed is row.state state mark row.bound by)
 
-  -- the rows make a valid table
-  pub rows_valid : All (λ row. IsState t row.state) rows → IsValidTable t g removed (map (row_of t) rows)
-  rows_valid states = record {
-    sound = All-map (IsSoundRow t g removed) (row_of t) rows (λ k d low. row_sound (get_or rows k d) (states k d low) (refuted k d low));
-    supported = All-map (λ row. RowsHold t removed (map (row_of t) rows) row row.why) (row_of t) rows
-        (λ k d low. row_supported states (get_or rows k d) (states k d low) (none_marked k d low) (refuted k d low));
+    rows_hold : All (λ row. IsState t row.state) rows → (mark : Option M) → RefutedBy mark
+        → RowsHold t removed (map (row_of t g removed) rows) (row_of t g removed row) (why_of t g removed (members row.state) (has_mark mark))
+    rows_hold states None by = subst (λ s. StepsHold t removed (map (row_of t g removed) rows) s row.bound) (sym (set_is row state)) (steps_hold states row.state row.bound state by)
+    rows_hold states (Some mark) by = tt
+
+  -- rows that refute a done state make a valid table
+  pub rows_valid : All (λ row. IsState t row.state) rows → AreRefuted (successors_of t removed) (holds_in t g) (shows_level t g removed) rows
+      → IsValidTable t g removed (map (row_of t g removed) rows)
+  rows_valid states refuted = record {
+    sound = All-map (IsSoundRow t g removed) (row_of t g removed) rows
+        (λ k d low. let row = get_or rows k d in record {
+          leaves_open = ap (goal_holds t g) (set_is row (states k d low)) ∙ (refuted k d low).not_done;
+          sets = sets_hold row (states k d low) row.mark (refuted k d low).why;
+        });
+    supported = All-map (λ row. RowsHold t removed (map (row_of t g removed) rows) row row.why) (row_of t g removed) rows
+        (λ k d low. let row = get_or rows k d in rows_hold row (states k d low) states row.mark (refuted k d low).why);
   }

@@ -1,24 +1,34 @@
--- The space of a task: its walks are the sequences of the task, and its states stay states of the task.
-use Rattle.std.specs.Prelude.{◌≡◌, ℕ, ◌*◌, ◌≤◌, List, length, Option, Some}
+-- The space of a task: its walks are the sequences of the task, its states stay states of the task, and
+-- its bounds from levels are at most the steps of its walks.
+use Rattle.std.proofs.Common.{◌≡◌, ◌≤◌, ◌<◌, ℕ, ◌*◌, true, List, [], ◌∷◌, length, map, get_or, refl, sym, ◌∙◌, ap, subst, inl, inr, arith, Option, Some, None, Result, Ok, Err, IfOk}
+use Rattle.std.specs.Prelude.{Contains, IsSomeAnd, IsTrue, All}
+use Rattle.std.specs.Option.{option_and_then}
+use Rattle.std.proofs.lemmas.Bool.{false≢true, cases_lt}
+use Rattle.std.proofs.lemmas.List.{length-map, get_or-map, get_or_default}
+use Rattle.std.proofs.lemmas.List.Elements.{All-map, All-weaker}
+use Rattle.std.proofs.lemmas.Option.{option_and_then_some}
 use Rattle.grd_base.specs.declared.bits.Bits.{Bits}
+use Rattle.grd_base.specs.declared.ids.AtomId.{AtomId}
 use Rattle.grd_base.specs.declared.ids.ActionId.{ActionId}
 use Rattle.grd_base.specs.declared.ids.GoalId.{GoalId}
-use Rattle.grd_base.specs.Bits.{members, IsWhole}
+use Rattle.grd_base.specs.declared.limits.Bound.{Bound}
+use Rattle.grd_base.specs.declared.limits.Bound.TheVariants.{Steps, Never}
+use Rattle.grd_base.specs.Bits.{members, bits_of, IsWhole}
 use Rattle.grd_base.specs.Counts.{MoreThan}
+use Rattle.grd_base.specs.Sets.{IsSubset}
 use Rattle.grd_base.proofs.SameLemmas.{same_by_members}
 use Rattle.strips_model.specs.Values.{PlainTask, IsTask}
 use Rattle.strips_model.specs.Plans.{State, after, goal_holds, Reaches, IsOver, step_without}
-use Rattle.search_core.specs.Spaces.{IsWalk, end_of, actions_of, IsDoneWithin, Counts}
-use Rattle.optimal_search.specs.Space.{successors_of}
-use Rattle.strips_model.specs.Reached.{IsWithinSteps}
-use Rattle.std.proofs.Common.{◌<◌, [], ◌∷◌, ◌+◌, map, get_or, refl, sym, ◌∙◌, ap, subst, arith, None}
-use Rattle.std.specs.Prelude.{Contains, IsSomeAnd, IsTrue, All}
-use Rattle.std.specs.Option.{option_and_then}
-use Rattle.std.proofs.lemmas.List.{length-map, get_or-map}
-use Rattle.std.proofs.lemmas.List.Elements.{All-map, All-weaker}
-use Rattle.std.proofs.lemmas.Option.{option_and_then_some}
-use Rattle.grd_base.specs.Bits.{bits_of}
-use Rattle.optimal_search.proofs.StepLaws.{step_over, packed_whole, packed_members, successor_from, successor_has}
+use Rattle.strips_model.specs.Cuts.{IsFamily}
+use Rattle.strips_model.specs.Levels.{grown, after_rounds, IsLevel}
+use Rattle.strips_model.specs.Reached.{IsNearWithin}
+use Rattle.search_core.specs.Spaces.{IsWalk, end_of, actions_of, IsDoneWithin, IsReachable, IsAtMostSteps, Counts}
+use Rattle.level_bounds.specs.Floors.{PlainFloor, level_of, ShowsLevel}
+use Rattle.level_bounds.proofs.LevelLaws.{goal_more, rounds_shift}
+use Rattle.level_bounds.proofs.FamilyLaws.{level_at_is, level_at_of, level_at_low, step_within}
+use Rattle.optimal_search.specs.Space.{successors_of, holds_in, level_in}
+use Rattle.optimal_search.specs.Floors.{IsLevelBound, IsLevelProof, CutsShow}
+use Rattle.optimal_search.proofs.StepLaws.{step_over, packed_whole, packed_members, packed_within, successor_from, successor_has}
 
 -- a state of the task, as a program holds it
 pub record IsState {W : ℕ} (t : PlainTask) (s : Bits W) : Type 0 where
@@ -101,25 +111,34 @@ module _ {W : ℕ} (t : PlainTask) (removed : List ActionId) (is : IsTask t) (wi
         done = ap (goal_holds t g) walk.3 ∙ end.2;
       }
 
-  -- a state that counts for r steps is reached within them
-  pub counts_within : (s u : Bits W) (r : ℕ) → IsState t s → Counts (successors_of t removed) (λ _. Some 0) s r u
-      → IsState t u × IsWithinSteps t removed (members s) r (members u)
-  counts_within s u r state counts =
+  -- a state that is reached from a state of the task is one
+  pub reached_state : (s u : Bits W) → IsState t s → IsReachable (successors_of t removed) s u → IsState t u
+  reached_state s u state reached =
+      let P : Bits W → Type 0 = λ x. IsState t x in
+      let path = reached.leads in
+      subst P path.ends (walk_state s path.walk state path.steps)
+
+  -- a state that counts for r steps is near within them
+  pub counts_near : (g : GoalId) (s u : Bits W) (r : ℕ) → IsState t s → Counts (successors_of t removed) (level_in t g removed) s r u
+      → IsState t u × IsNearWithin t g removed (members s) r (members u)
+  counts_near g s u r state counts =
       let P : Bits W → Type 0 = λ x. IsState t x in (
         subst P counts.leads.ends (walk_state s counts.leads.walk state counts.leads.steps),
         record {
           path = counts.path;
           leads = ap (after t removed (members s)) (sym counts.leads.carries) ∙ walk_leads s counts.leads.walk state counts.leads.steps ∙ ap (λ (x : Bits W). Some (members x)) counts.leads.ends;
-          short = let near : length counts.path + counts.height ≤ r = counts.near in omega arith;
+          level = counts.height;
+          level_is = subst (IsLevel t g removed (members u)) counts.level_is (level_at_is t g removed (members u) is);
+          near = counts.near;
         },
       )
 
-  -- more states that count are more states that are reached
-  pub more_within : (s : Bits W) (r limit : ℕ) → IsState t s → MoreThan limit (Counts (successors_of t removed) (λ _. Some 0) s r)
-      → MoreThan limit (IsWithinSteps t removed (members s) r)
-  more_within s r limit state more =
-      let reached : All (λ u. IsState t u × IsWithinSteps t removed (members s) r (members u)) more.items =
-      All-weaker (Counts (successors_of t removed) (λ _. Some 0) s r) (λ u. IsState t u × IsWithinSteps t removed (members s) r (members u)) (λ u counts. counts_within s u r state counts) more.items more.have in
+  -- more states that count are more states that are near
+  pub more_near : (g : GoalId) (s : Bits W) (r limit : ℕ) → IsState t s → MoreThan limit (Counts (successors_of t removed) (level_in t g removed) s r)
+      → MoreThan limit (IsNearWithin t g removed (members s) r)
+  more_near g s r limit state more =
+      let near : All (λ u. IsState t u × IsNearWithin t g removed (members s) r (members u)) more.items =
+      All-weaker (Counts (successors_of t removed) (level_in t g removed) s r) (λ u. IsState t u × IsNearWithin t g removed (members s) r (members u)) (λ u counts. counts_near g s u r state counts) more.items more.have in
       let long : length (map members more.items) ≡ length more.items = length-map more.items members in
       record {
         items = map members more.items;
@@ -129,8 +148,81 @@ module _ {W : ℕ} (t : PlainTask) (removed : List ActionId) (is : IsTask t) (wi
             let later : j < length more.items = omega arith in
             let earlier : i < length more.items = omega arith in
             more.differ i j e before later
-            (same_by_members (get_or more.items i e) (get_or more.items j e) (reached i e earlier).0.whole (reached j e later).0.whole
+            (same_by_members (get_or more.items i e) (get_or more.items j e) (near i e earlier).0.whole (near j e later).0.whole
             (sym (get_or-map members more.items i e d earlier) ∙ same ∙ get_or-map members more.items j e d later));
-        have = All-map (IsWithinSteps t removed (members s) r) members more.items
-            (All-weaker (λ u. IsState t u × IsWithinSteps t removed (members s) r (members u)) (λ u. IsWithinSteps t removed (members s) r (members u)) (λ u both. both.1) more.items reached);
+        have = All-map (IsNearWithin t g removed (members s) r) members more.items
+            (All-weaker (λ u. IsState t u × IsNearWithin t g removed (members s) r (members u)) (λ u. IsNearWithin t g removed (members s) r (members u)) (λ u both. both.1) more.items near);
       }
+
+module _ {W : ℕ} (t : PlainTask) (removed : List ActionId) where
+  -- a walk from within a set is within as many rounds from it as it has steps, be its start a state of the
+  -- task or not
+  walk_within : (s : Bits W) (v : State) (walk : List (ActionId × Bits W)) → IsSubset (members s) v → IsWalk (successors_of t removed) s walk
+      → IsSubset (members (end_of s walk)) (after_rounds t removed v (length walk))
+  unfolding after_rounds
+  walk_within s v [] within steps = within
+  walk_within s v (step ∷ rest) within steps =
+      let from = successor_from t removed s step steps.0 in
+      let packed : IsSubset (members step.1) from.0 = subst (λ (x : Bits W). IsSubset (members x) from.0) (sym from.2) (packed_within W from.0) in
+      let next : IsSubset (members step.1) (grown t removed v) = step_within t removed (members s) from.0 (members step.1) v step.0 from.1 packed within in
+      subst (IsSubset (members (end_of step.1 rest))) (rounds_shift t removed v (length rest)) (walk_within step.1 (grown t removed v) rest next steps.1)
+
+  -- where a done state lies within n steps, the goal holds after at most n rounds
+  done_rounds : (g : GoalId) (s : Bits W) (n : ℕ) → IsDoneWithin (successors_of t removed) (holds_in t g) s n
+      → (k : ℕ) × (k ≤ n) × (goal_holds t g (after_rounds t removed (members s) k) ≡ true)
+  done_rounds g s n done =
+      let path = done.leads in
+      let long : length (actions_of path.walk) ≡ length path.walk = length-map path.walk (λ (x : ActionId × Bits W). x.0) in
+      let same : length (actions_of path.walk) ≡ length done.path = ap length path.carries in
+      let within : IsSubset (members done.end) (after_rounds t removed (members s) (length path.walk)) =
+      subst (λ (x : Bits W). IsSubset (members x) (after_rounds t removed (members s) (length path.walk))) path.ends (walk_within s (members s) path.walk (λ m member. member) path.steps) in
+      (length path.walk, omega (arith, done.short), goal_more t g (members done.end) (after_rounds t removed (members s) (length path.walk)) within done.done)
+
+  -- no done state lies nearer to a bit set than its level
+  pub level_below : (g : GoalId) (s : Bits W) (bound : Bound) → IsLevel t g removed (members s) (level_of bound) → IsAtMostSteps (successors_of t removed) (holds_in t g) s bound
+  level_below g s (Steps m) level = λ n done.
+      let (k, few, holds) = done_rounds g s n done in
+      elim (cases_lt k m) [
+        | inl low ↦ absurd (false≢true (sym (level.1 k low) ∙ holds))
+        | inr high ↦ omega (arith, few, high)
+      ]
+  level_below g s Never level = λ n done.
+      let (k, few, holds) = done_rounds g s n done in
+      false≢true (sym (level k) ∙ holds)
+
+module _ {W : ℕ} (t : PlainTask) (g : GoalId) (removed : List ActionId) (s : Bits W) where
+  -- a bound of a floor whose level is that of the state is a bound from its level
+  pub level_bound : IsTask t → (floor : PlainFloor) → floor ≡ (record { task = t; goal = g; removed = removed }) → (bound : Bound) → IsLevel floor.task floor.goal floor.removed (members s) (level_of bound)
+      → IsLevelBound t g removed s bound
+  level_bound is floor same bound found =
+      let level : IsLevel t g removed (members s) (level_of bound) = subst (λ (f : PlainFloor). IsLevel f.task f.goal f.removed (members s) (level_of bound)) same found in
+      record { level = level_at_of t g removed (members s) is (level_of bound) level; steps = level_below t removed g s bound level }
+
+  -- a bound from the level of a state shows its level
+  pub bound_level : IsTask t → (bound : Bound) → IsLevelBound t g removed s bound → IsLevel t g removed (members s) (level_of bound)
+  bound_level is bound shown = subst (IsLevel t g removed (members s)) shown.level (level_at_is t g removed (members s) is)
+
+  -- a bound from the level of a state is at most the number of atoms
+  pub shown_low : IsTask t → (n : ℕ) → IsLevelBound t g removed s (Steps n) → n ≤ t.atoms
+  shown_low is n shown = level_at_low t g removed (members s) n shown.level
+
+  -- a family that shows the level of a state proves each bound from it
+  level_proof : IsTask t → (sets : List (List AtomId)) (bound : Bound) → IsFamily t g removed (members s) sets → ShowsLevel t g removed (members s) sets → IsLevelBound t g removed s bound
+      → IsLevelProof t g removed s sets bound
+  level_proof is sets bound family shows shown = record { family = family; suffice = by bound (bound_level is bound shown) }
+    where
+      by : (b : Bound) → IsLevel t g removed (members s) (level_of b) → CutsShow t removed sets b
+      by (Steps n) level = λ r low. let long : length sets ≡ n = (shows.some n level).0 in inr (omega (arith, low, long))
+      by Never level =
+          let both = shows.none level in
+          let none : List AtomId = [] in
+          let within : 0 < length sets = omega (arith, both.0) in
+          (0, get_or sets 0 none, within, get_or_default sets 0 (get_or sets 0 none) none within, both.1 0 none within)
+
+  -- where a floor made a family that shows the level, it proves each bound from it
+  pub level_proofs : IsTask t → (floor : PlainFloor) → floor ≡ (record { task = t; goal = g; removed = removed }) → {E : Type 0} (made : Result (List (List AtomId)) E)
+      → IfOk made (λ sets. IsFamily floor.task floor.goal floor.removed (members s) sets) → IfOk made (λ sets. ShowsLevel floor.task floor.goal floor.removed (members s) sets)
+      → IfOk made (λ sets. (bound : Bound) → IsLevelBound t g removed s bound → IsLevelProof t g removed s sets bound)
+  level_proofs is floor same (Ok sets) family shows = λ bound shown.
+      level_proof is sets bound (subst (λ (f : PlainFloor). IsFamily f.task f.goal f.removed (members s) sets) same family) (subst (λ (f : PlainFloor). ShowsLevel f.task f.goal f.removed (members s) sets) same shows) shown
+  level_proofs is floor same (Err e) family shows = tt

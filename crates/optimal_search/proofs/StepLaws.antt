@@ -1,22 +1,27 @@
 -- The steps of a task between states that are bit sets.
-use Rattle.std.proofs.Common.{◌≡◌, ℕ, zero, suc, ◌+◌, ◌*◌, ◌<◌, ◌≤◌, Bool, true, false, cond, not, ◌&&◌, ◌||◌, List, [], ◌∷◌, ◌++◌, length, take, get_or, refl, sym, ◌∙◌, ap, subst, inl, inr, arith, Option, Some, None}
-use Rattle.std.specs.Prelude.{Contains, All}
+use Rattle.std.proofs.Common.{◌≡◌, ℕ, zero, suc, ◌+◌, ◌*◌, ◌/◌, ◌%◌, ◌<◌, ◌≤◌, Bool, true, false, cond, eqb, not, ◌&&◌, ◌||◌, List, [], ◌∷◌, ◌++◌, length, take, get_or, refl, sym, ◌∙◌, ap, subst, inl, inr, arith, Option, Some, None}
+use Rattle.std.specs.Prelude.{Contains, All, filter, IsTrue, if◌then◌else◌}
+use Rattle.std.specs.Int.{bit_at}
 use Rattle.std.specs.Option.{option_map}
 use Rattle.std.specs.List.{filter_map, cons_option}
-use Rattle.std.proofs.lemmas.List.{append-nil, take_more, take_all}
-use Rattle.std.proofs.lemmas.Bool.{ne_eqb}
+use Rattle.std.proofs.lemmas.List.{take_more, take_all}
+use Rattle.std.proofs.lemmas.Bool.{ne_eqb, false≢true, cases_lt, cases_Bool}
 use Rattle.std.proofs.lemmas.Option.{slice_get_within, get_or_from_slice_get}
-use Rattle.std.proofs.lemmas.List.Elements.{All-head, All-tail, All-contains, All-get_or, filter_map-append, Contains-append_right, Contains-append_cases, Contains-push_cases}
+use Rattle.std.proofs.lemmas.List.Elements.{All-head, All-tail, All-get_or, All-filter, filter_passes, filter_map-append, Contains-append_right, Contains-append_cases, Contains-push_cases}
 use Rattle.grd_base.specs.declared.bits.Bits.{Bits}
 use Rattle.grd_base.specs.declared.ids.AtomId.{AtomId}
 use Rattle.grd_base.specs.declared.ids.ActionId.{ActionId}
 use Rattle.grd_base.specs.Rising.{has_id}
-use Rattle.grd_base.specs.Bits.{members, bits_of, IsWhole}
-use Rattle.grd_base.proofs.PackedLemmas.{words_wide, words_fit, words_have}
+use Rattle.grd_base.specs.Sets.{IsSubset}
+use Rattle.grd_base.specs.Bits.{has, members, bits_of, words_of, IsWhole}
+use Rattle.grd_base.proofs.BitsLemmas.{has_past}
+use Rattle.grd_base.proofs.PackedLemmas.{word_bits, words_at, words_wide, words_fit, words_have}
 use Rattle.strips_model.specs.Values.{PlainTask, IsTask, IsActionBelow, GroundAction}
-use Rattle.strips_model.specs.Plans.{State, set_of, step, step_without, effect, IsOver}
+use Rattle.strips_model.specs.Plans.{State, set_of, is_step, step, step_without, effect, IsOver}
 use Rattle.strips_model.specs.Moves.{allowed_of}
-use Rattle.strips_model.proofs.MoveLemmas.{allowed_good, step_by, step_allowed, IsStepBy}
+use Rattle.strips_model.proofs.MoveLemmas.{allowed_good, step_by, step_allowed, IsStepBy, allowed_step}
+use Rattle.strips_model.proofs.StepLemmas.{no_step}
+use Rattle.succ_table.specs.Applicable.{applicable_of}
 use Rattle.optimal_search.specs.Space.{labelled_step, successors_of}
 
 -- the one element of a list
@@ -67,9 +72,16 @@ module _ {X Y : Type 0} (f : X → Option Y) (xs : List X) (i : ℕ) (d : X) (wi
   pub filter_map_more_some : (ys zs : List Y) (y : Y) → ys ≡ filter_map f (take i xs) → f (get_or xs i d) ≡ Some y → zs ≡ ys ++ y ∷ [] → zs ≡ filter_map f (take (i + 1) xs)
   filter_map_more_some ys zs y before gives after = after ∙ ap (λ l. l ++ y ∷ []) before ∙ sym (more_parts ∙ ap (λ o. filter_map f (take i xs) ++ cons_option o []) gives)
 
-  -- where the next element gives none, nothing is put behind the others
-  pub filter_map_more_none : (ys : List Y) → ys ≡ filter_map f (take i xs) → f (get_or xs i d) ≡ None → ys ≡ filter_map f (take (i + 1) xs)
-  filter_map_more_none ys before gives = before ∙ sym (more_parts ∙ ap (λ o. filter_map f (take i xs) ++ cons_option o []) gives ∙ append-nil (filter_map f (take i xs)))
+module _ {X Y : Type 0} (f : X → Option Y) (p : X → Bool) (none : (x : X) → p x ≡ false → f x ≡ None) where
+  -- elements that give none may be left out before
+  filter_map_filter : (xs : List X) → filter_map f (filter p xs) ≡ filter_map f xs
+  filter_map_filter [] = refl
+  filter_map_filter (x ∷ xs) =
+      let rest : filter_map f (filter p xs) ≡ filter_map f xs = filter_map_filter xs in
+      elim (cases_Bool (p x)) [
+        | inl is ↦ ap (λ b. filter_map f (cond b (x ∷ filter p xs) (filter p xs))) is ∙ ap (cons_option (f x)) rest
+        | inr is ↦ ap (λ b. filter_map f (cond b (x ∷ filter p xs) (filter p xs))) is ∙ rest ∙ sym (ap (λ o. cons_option o (filter_map f xs)) (none x is))
+      ]
 
 -- no number from the bound on is in a set of atoms below it
 set_over : (bound : ℕ) (xs : List AtomId) (n : ℕ) → All (λ a. a.0 < bound) xs → bound ≤ n → set_of xs n ≡ false
@@ -97,18 +109,19 @@ step_over t removed s u a is over leads =
     let P : State → Type 0 = λ v. IsOver t v in
     subst P (sym by.leads) (effect_over t by.action s below over)
 
--- each allowed action is one of the task
-pub allowed_within : (t : PlainTask) (removed allowed : List ActionId) (i : ℕ) (d : ActionId) → allowed ≡ allowed_of t removed → i < length allowed → (get_or allowed i d).0 < length t.actions
-allowed_within t removed allowed i d same within =
-    let P : ActionId → Type 0 = λ a. (a.0 < length t.actions) × (has_id removed a ≡ false) in
-    (subst (All P) (sym same) (allowed_good t removed) i d within).0
+-- what a table finds are the actions that apply in the state
+pub found_are : (t u : PlainTask) (removed found items : List ActionId) (s : State) → items ≡ found → found ≡ applicable_of u removed s → u ≡ t → items ≡ applicable_of t removed s
+found_are t u removed found items s held are same = held ∙ are ∙ ap (λ (v : PlainTask). applicable_of v removed s) same
 
--- the step of an allowed action
-pub allowed_step : (t : PlainTask) (removed : List ActionId) (s : State) (a : ActionId) → Contains (allowed_of t removed) a → step_without t removed s a ≡ step t s a
-unfolding step_without
-allowed_step t removed s a allowed =
-    let kept : has_id removed a ≡ false = (All-contains (λ b. (b.0 < length t.actions) × (has_id removed b ≡ false)) (allowed_of t removed) a (allowed_good t removed) allowed).1 in
-    ap (λ b. cond b None (step t s a)) kept
+-- each action that was found is one of the task's, and applies
+pub found_good : (t : PlainTask) (removed found : List ActionId) (s : State) (i : ℕ) (d : ActionId) → found ≡ applicable_of t removed s → i < length found
+    → ((get_or found i d).0 < length t.actions) × (is_step t s (get_or found i d) ≡ true)
+found_good t removed found s i d are within =
+    let P : ActionId → Type 0 = λ a. (a.0 < length t.actions) × (has_id removed a ≡ false) in
+    let Q : ActionId → Type 0 = λ a. is_step t s a ≡ true in (
+      (subst (All P) (sym are) (All-filter (is_step t s) P (allowed_of t removed) (allowed_good t removed)) i d within).0,
+      subst (All Q) (sym are) (filter_passes (is_step t s) (allowed_of t removed)) i d within,
+    )
 
 -- a step with its label is a step
 pub labelled_from : {W : ℕ} (t : PlainTask) (s : Bits W) (a : ActionId) (x : ActionId × Bits W) → labelled_step t s a ≡ Some x → (u : State) × (step t (members s) a ≡ Some u) × (x ≡ (a, bits_of u))
@@ -118,13 +131,13 @@ labelled_from {W} t s a x labelled = by (step t (members s) a) refl labelled
     by None leads same = cc
     by (Some u) leads same = (u, leads, cc)
 
--- what the program finds of a step is the step with its label
-pub labelled_some : {W : ℕ} (t : PlainTask) (s next : Bits W) (a : ActionId) → Some (members next) ≡ step t (members s) a → bits_of (members next) ≡ next → labelled_step t s a ≡ Some (a, next)
-labelled_some t s next a leads again = ap (option_map (λ u. (a, bits_of u))) (sym leads) ∙ ap (λ x. Some (a, x)) again
+-- the step that the program makes is the step with its label
+pub labelled_some : {W : ℕ} (t : PlainTask) (s next : Bits W) (a : ActionId) → step t (members s) a ≡ Some (members next) → bits_of (members next) ≡ next → labelled_step t s a ≡ Some (a, next)
+labelled_some t s next a leads again = ap (option_map (λ u. (a, bits_of u))) leads ∙ ap (λ x. Some (a, x)) again
 
--- where the program finds no step, there is none
-pub labelled_none : {W : ℕ} (t : PlainTask) (s : Bits W) (a : ActionId) → None ≡ step t (members s) a → labelled_step t s a ≡ None
-labelled_none t s a leads = ap (option_map (λ u. (a, bits_of u))) (sym leads)
+-- an action that does not apply has no step
+labelled_none : {W : ℕ} (t : PlainTask) (s : Bits W) (a : ActionId) → is_step t (members s) a ≡ false → labelled_step t s a ≡ None
+labelled_none t s a out = ap (option_map (λ u. (a, bits_of u))) (no_step t (members s) a out)
 
 -- the bit set that is made of a state is whole
 pub packed_whole : {W : ℕ} (u : State) → IsWhole (bits_of {W = W} u)
@@ -136,12 +149,33 @@ pub packed_members : (W : ℕ) (t : PlainTask) (u : State) → t.atoms ≤ 64 * 
 unfolding members bits_of
 packed_members W t u wide over = words_have u W (λ n past. over n (omega arith))
 
--- the steps by all the allowed actions are the successors
-pub all_steps : {W : ℕ} (t u : PlainTask) (removed allowed : List ActionId) (s : Bits W) (i : ℕ) (steps : List (ActionId × Bits W))
-    → steps ≡ filter_map (labelled_step t s) (take i allowed) → length allowed ≤ i → allowed ≡ allowed_of u removed → t ≡ u → steps ≡ successors_of u removed s
+-- the bit set that is made of a set has no other members
+pub packed_within : (W : ℕ) (u : State) → IsSubset (members (bits_of {W = W} u)) u
+unfolding members bits_of has
+packed_within W u n member = elim (cases_lt n (64 * W)) as (λ _. IsTrue (u n)) [
+  | inl within ↦
+      let place : n / 64 < W = omega arith in
+      let low : n % 64 < 64 = omega arith in
+      let is : 64 * (0 + n / 64) + n % 64 ≡ n = omega arith in
+      let bits : bit_at (get_or (words_of u 0 W) (n / 64) 0) (n % 64) ≡ (if u n then 1 else 0) =
+      ap (λ x. bit_at x (n % 64)) (words_at u 0 W (n / 64) place) ∙ word_bits u (64 * (0 + n / 64)) 64 (n % 64) low ∙ ap (λ m. if u m then 1 else 0) is in
+      by (u n) (ap (λ x. eqb x 1) (sym bits) ∙ member)
+  | inr past ↦
+      let wide : length (words_of u 0 W) ≡ W = words_wide u 0 W in
+      absurd (false≢true (sym (has_past (words_of u 0 W) n (omega (arith, past, wide))) ∙ member))
+]
+  where
+    by : (b : Bool) → eqb (if b then 1 else 0) 1 ≡ true → b ≡ true
+    by true e = refl
+    by false e = e
+
+-- the steps by all the actions that were found are the successors
+pub all_steps : {W : ℕ} (t : PlainTask) (removed found : List ActionId) (s : Bits W) (i : ℕ) (steps : List (ActionId × Bits W))
+    → steps ≡ filter_map (labelled_step t s) (take i found) → length found ≤ i → found ≡ applicable_of t removed (members s) → steps ≡ successors_of t removed s
 unfolding successors_of
-all_steps t u removed allowed s i steps so_far past are same =
-    so_far ∙ ap (filter_map (labelled_step t s)) (take_all i allowed past ∙ are) ∙ ap (λ v. filter_map (labelled_step v s) (allowed_of u removed)) same
+all_steps t removed found s i steps so_far past are =
+    so_far ∙ ap (filter_map (labelled_step t s)) (take_all i found past ∙ are)
+    ∙ filter_map_filter (labelled_step t s) (is_step t (members s)) (λ a out. labelled_none t s a out) (allowed_of t removed)
 
 -- a successor of a state comes of a step without the removed actions
 pub successor_from : {W : ℕ} (t : PlainTask) (removed : List ActionId) (s : Bits W) (x : ActionId × Bits W) → Contains (successors_of t removed s) x
@@ -151,7 +185,7 @@ successor_from {W} t removed s x there =
     let from = filter_map_from (labelled_step t s) (allowed_of t removed) x there in
     let by = labelled_from t s from.0 x from.2 in
     let same : x.0 ≡ from.0 = ap (λ (y : ActionId × Bits W). y.0) by.2 in
-    (by.0, ap (step_without t removed (members s)) same ∙ allowed_step t removed (members s) from.0 from.1 ∙ by.1, ap (λ (y : ActionId × Bits W). y.1) by.2)
+    (by.0, ap (step_without t removed (members s)) same ∙ allowed_step t removed from.0 from.1 (members s) ∙ by.1, ap (λ (y : ActionId × Bits W). y.1) by.2)
 
 -- each step without the removed actions leads to a successor
 pub successor_has : {W : ℕ} (t : PlainTask) (removed : List ActionId) (s : Bits W) (a : ActionId) (u : State) → step_without t removed (members s) a ≡ Some u
@@ -159,4 +193,4 @@ pub successor_has : {W : ℕ} (t : PlainTask) (removed : List ActionId) (s : Bit
 unfolding successors_of
 successor_has t removed s a u leads =
     let allowed : Contains (allowed_of t removed) a = step_allowed t removed (members s) a u leads in
-    filter_map_has (labelled_step t s) (allowed_of t removed) a (a, bits_of u) allowed (ap (option_map (λ v. (a, bits_of v))) (sym (allowed_step t removed (members s) a allowed) ∙ leads))
+    filter_map_has (labelled_step t s) (allowed_of t removed) a (a, bits_of u) allowed (ap (option_map (λ v. (a, bits_of v))) (sym (allowed_step t removed a allowed (members s)) ∙ leads))

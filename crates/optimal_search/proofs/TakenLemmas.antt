@@ -1,16 +1,18 @@
 -- Rows whose states get numbers one by one.
-use Rattle.std.proofs.Common.{◌≡◌, ◌⊎◌, ℕ, zero, suc, ◌+◌, ◌≤◌, List, [], ◌∷◌, ◌++◌, length, get_or, Option, Some, None, refl, sym, ◌∙◌, ap, subst, inl, inr, arith}
+use Rattle.std.proofs.Common.{◌≡◌, ◌⊎◌, ℕ, zero, suc, List, [], ◌∷◌, ◌++◌, length, get_or, Option, Some, refl, sym, ◌∙◌, ap, subst, inl, inr, arith}
 use mathlib.Core.Path.{ap₂}
 use Rattle.std.specs.Prelude.{slice_get, All}
 use Rattle.std.proofs.lemmas.List.{length-append}
 use Rattle.std.proofs.lemmas.List.Elements.{All-push, All-contains, Contains-append_left, Contains-get_or, Contains-push}
 use Rattle.std.proofs.lemmas.Option.{slice_get_within}
 use Rattle.grd_base.specs.declared.bits.Bits.{Bits}
-use Rattle.grd_base.specs.declared.limits.Bound.{Bound}
+use Rattle.grd_base.specs.declared.ids.ActionId.{ActionId}
+use Rattle.grd_base.specs.declared.ids.GoalId.{GoalId}
 use Rattle.grd_base.specs.Bits.{members}
 use Rattle.strips_model.specs.Values.{PlainTask}
 use Rattle.search_core.specs.declared.rows.KeptRow.{KeptRow}
 use Rattle.strips_model.specs.Plans.{IsOver}
+use Rattle.optimal_search.specs.declared.kept.ProvedBound.{ProvedBound}
 use Rattle.optimal_search.specs.Rows.{rows_kept}
 use Rattle.optimal_search.specs.Kept.{IsNumbered, AreNumbered}
 use Rattle.optimal_search.proofs.KeptLemmas.{rows_push, AreTaken}
@@ -30,11 +32,11 @@ at_left [] ys i y e = cc
 at_left (x ∷ xs) ys zero y e = e
 at_left (x ∷ xs) ys (suc i) y e = at_left xs ys i y e
 
-module _ {W : ℕ} (states : List (Bits W)) (bounds : List (Option Bound)) (new : List (Bits W)) (new_bounds : List (Option Bound)) (s : Bits W) where
+module _ {W : ℕ} (states : List (Bits W)) (bounds : List (Option ProvedBound)) (new : List (Bits W)) (new_bounds : List (Option ProvedBound)) (s : Bits W) where
   -- a number more makes no row
-  pub same_rows : (t : PlainTask) → length bounds ≡ length states → IsNumbered states bounds new new_bounds s → rows_kept t new new_bounds ≡ rows_kept t states bounds
-  same_rows t matched (inl same) = ap₂ (rows_kept t) same.0 same.1
-  same_rows t matched (inr added) = ap₂ (rows_kept t) added.0 added.1 ∙ rows_push t states bounds s matched
+  pub same_rows : (t : PlainTask) (g : GoalId) (removed : List ActionId) → length bounds ≡ length states → IsNumbered states bounds new new_bounds s → rows_kept t g removed new new_bounds ≡ rows_kept t g removed states bounds
+  same_rows t g removed matched (inl same) = ap₂ (rows_kept t g removed) same.0 same.1
+  same_rows t g removed matched (inr added) = ap₂ (rows_kept t g removed) added.0 added.1 ∙ rows_push t g removed states bounds s matched
 
   pub still_over : (t : PlainTask) → IsNumbered states bounds new new_bounds s → All (λ x. IsOver t (members x)) states → IsOver t (members s) → All (λ x. IsOver t (members x)) new
   still_over t (inl same) over here = subst (All (λ x. IsOver t (members x))) (sym same.0) over
@@ -44,8 +46,8 @@ module _ {W : ℕ} (states : List (Bits W)) (bounds : List (Option Bound)) (new 
   still_at (inl same) n x at = ap (λ xs. slice_get xs n) same.0 ∙ at
   still_at (inr added) n x at = ap (λ xs. slice_get xs n) added.0 ∙ at_left states (s ∷ []) n x at
 
-module _ {W : ℕ} {M : Type 0} (old : List (Bits W)) (old_bounds : List (Option Bound)) (states : List (Bits W)) (bounds : List (Option Bound)) (numbers : List ℕ) (rows : List (KeptRow (Bits W) M))
-    (new : List (Bits W)) (new_bounds : List (Option Bound)) (row : KeptRow (Bits W) M) (n : ℕ) where
+module _ {W : ℕ} {M : Type 0} (old : List (Bits W)) (old_bounds : List (Option ProvedBound)) (states : List (Bits W)) (bounds : List (Option ProvedBound)) (numbers : List ℕ) (rows : List (KeptRow (Bits W) M))
+    (new : List (Bits W)) (new_bounds : List (Option ProvedBound)) (row : KeptRow (Bits W) M) (n : ℕ) where
   places_more : AreNumbered states numbers rows → IsNumbered states bounds new new_bounds row.state → slice_get new n ≡ Some row.state → AreNumbered new (numbers ++ n ∷ []) (rows ++ row ∷ [])
   places_more places numbered at = (omega (arith, places.0, length-append numbers (n ∷ []), length-append rows (row ∷ [])), each)
     where
@@ -66,7 +68,7 @@ module _ {W : ℕ} {M : Type 0} (old : List (Bits W)) (old_bounds : List (Option
       → AreTaken old old_bounds new new_bounds (numbers ++ n ∷ []) (rows ++ row ∷ [])
   taken_more taken numbered matched at = record {
     matched = matched;
-    same = λ t. same_rows states bounds new new_bounds row.state t taken.matched numbered ∙ taken.same t;
+    same = λ t g removed. same_rows states bounds new new_bounds row.state t g removed taken.matched numbered ∙ taken.same t g removed;
     over = λ t all_old all_rows.
         let Over : KeptRow (Bits W) M → Type 0 = λ r. IsOver t (members r.state) in
         still_over states bounds new new_bounds row.state t numbered

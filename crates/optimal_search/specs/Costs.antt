@@ -1,10 +1,10 @@
 -- What `costs` answers for a goal.
-use Rattle.std.specs.Prelude.{◌≡◌, ℕ, ◌≤◌, List, [], ◌∷◌, length, Option, All, IfSome}
+use Rattle.std.specs.Prelude.{ℕ, ◌≤◌, List, [], ◌∷◌, length, All, IfSome}
 use Rattle.grd_base.specs.declared.ids.GoalId.{GoalId}
 use Rattle.grd_base.specs.Counts.{AllDistinct}
 use Rattle.strips_model.specs.Values.{PlainTask}
 use Rattle.strips_model.specs.Plans.{State, set_of, IsCost}
-use Rattle.strips_model.specs.Reached.{IsReachedFor}
+use Rattle.strips_model.specs.Reached.{IsNear}
 use Rattle.cost_certificate.specs.declared.rows.Why.{Why}
 use Rattle.cost_certificate.specs.declared.rows.Why.TheVariants.{Cuts, Steps as BySteps}
 use Rattle.cost_certificate.specs.Rows.{PlainRow}
@@ -21,10 +21,9 @@ abbrev pub states_by_steps : List PlainRow → List State
 states_by_steps [] = []
 states_by_steps (row ∷ rows) = with_state row.why (set_of row.state) (states_by_steps rows)
 
--- the rows by steps have states that are reached for the goal, no two the same and at most `limit` of
--- them
-pub record AreFewReached (t : PlainTask) (g : GoalId) (limit : ℕ) (rows : List PlainRow) : Type 0 where
-  pub reached : All (IsReachedFor t g) (states_by_steps rows)
+-- the rows by steps have states that are near for the goal, no two the same and at most `limit` of them
+pub record AreFewNear (t : PlainTask) (g : GoalId) (limit : ℕ) (rows : List PlainRow) : Type 0 where
+  pub near : All (IsNear t g) (states_by_steps rows)
   pub distinct : AllDistinct (states_by_steps rows)
   pub few : length (states_by_steps rows) ≤ limit
 
@@ -34,5 +33,5 @@ pub record IsRightCost (t : PlainTask) (g : GoalId) (limit : ℕ) (found : Plain
   pub cost : IsCost t g [] found.cost
   pub within_limit : IfSome found.cost (λ c. c ≤ limit)
   pub shown : ShowsCost t g [] found
-  pub kept : AreFewReached t g limit found.table
+  pub kept : AreFewNear t g limit found.table
   pub over : All (IsRowOver t) found.table

@@ -37,15 +37,16 @@ abbrev pub AreTooMany : {S : Type 0} → Successors S → (S → Bool) → (S �
 AreTooMany next is_done level start limit =
     (r : ℕ) × MoreThan limit (Counts next level start r) × IsFar next is_done start r
 
--- what is known between two passes: no done state lies within fewer than `low` steps, as the rows show;
--- a path that was found has at least so many steps and at most the limit
-pub record IsKnown {S M : Type 0} (next : Successors S) (is_done : S → Bool) (level : S → Option ℕ) (shows : S → M → Bound → Type 0) (start : S) (limit : ℕ) (known : Known S M) : Type 0 where
+-- what is known between two passes, of which none is for more than `last` steps: no done state lies
+-- within fewer than `low` steps, as the rows show; a path that was found has at least so many steps and
+-- at most the limit
+pub record IsKnown {S M : Type 0} (next : Successors S) (is_done : S → Bool) (level : S → Option ℕ) (shows : S → M → Bound → Type 0) (start : S) (limit last : ℕ) (known : Known S M) : Type 0 where
   pub far : IsFar next is_done start known.low
   pub refuted : RefuteFewer next is_done level shows start limit known.low known.rows.items
-  pub within_limit : known.low ≤ limit
+  pub within_last : known.low ≤ last
   pub path : IfSome known.path (λ path. IsDonePath next is_done start (length path.items) limit path.items × (known.low ≤ length path.items))
 
 -- how much is left to find out, a number that falls with each pass: twice the steps that may still be
--- refuted, how far the next pass may look, and the length of the path
+-- refuted, how far the next pass may look, and the length of the path; no pass is for more than `last`
 abbrev pub left_of : {S M : Type 0} → ℕ → Known S M → ℕ
-left_of limit known = 2 * (limit + 1 - known.low) + known.ahead + option_map_or (λ path. length path.items) known.path (limit + 1)
+left_of last known = 2 * (last + 1 - known.low) + known.ahead + option_map_or (λ path. length path.items) known.path (last + 1)

@@ -10,6 +10,7 @@ use Rattle.strips_model.specs.Values.{PlainTask}
 use Rattle.strips_model.specs.Plans.{State, start_of, IsOver}
 use Rattle.cost_certificate.specs.Rows.{PlainRow}
 use Rattle.cost_certificate.specs.Tables.{HasRow, IsValidTable}
+use Rattle.optimal_search.specs.declared.kept.ProvedBound.{ProvedBound}
 use Rattle.optimal_search.specs.Rows.{rows_kept}
 
 -- an oracle: its task, goal and removed actions, how many states a question may count, and its rows
@@ -42,10 +43,10 @@ HasStartRow t rows (Some (suc n)) = HasRow rows (start_of t) (Steps n)
 HasStartRow t rows None = HasRow rows (start_of t) Never
 
 -- what every oracle keeps, behind its rows: states of the task, each with a bound or with none yet
-pub record AreKept {W : ℕ} (t : PlainTask) (g : GoalId) (removed : List ActionId) (states : List (Bits W)) (bounds : List (Option Bound)) : Type 0 where
+pub record AreKept {W : ℕ} (t : PlainTask) (g : GoalId) (removed : List ActionId) (states : List (Bits W)) (bounds : List (Option ProvedBound)) : Type 0 where
   pub wide : W ≤ 64
   pub atoms : t.atoms ≤ 64 * W
   pub goal_in : g.0 < length t.goals
   pub over : All (λ s. IsOver t (members s)) states
   pub matched : length bounds ≡ length states
-  pub valid : IsValidTable t g removed (rows_kept t states bounds)
+  pub valid : IsValidTable t g removed (rows_kept t g removed states bounds)

@@ -1,13 +1,15 @@
 -- The space of a task without removed actions: its states are bit sets.
-use Rattle.std.specs.Prelude.{ℕ, List, Option}
+use Rattle.std.specs.Prelude.{ℕ, Bool, List, Option}
 use Rattle.std.specs.Option.{option_map}
 use Rattle.std.specs.List.{filter_map}
 use Rattle.grd_base.specs.declared.bits.Bits.{Bits}
 use Rattle.grd_base.specs.declared.ids.ActionId.{ActionId}
+use Rattle.grd_base.specs.declared.ids.GoalId.{GoalId}
 use Rattle.grd_base.specs.Bits.{members, bits_of}
 use Rattle.strips_model.specs.Values.{PlainTask}
-use Rattle.strips_model.specs.Plans.{step}
+use Rattle.strips_model.specs.Plans.{step, goal_holds}
 use Rattle.strips_model.specs.Moves.{allowed_of}
+use Rattle.level_bounds.specs.Floors.{level_at}
 
 -- the step of the action from the state, where it applies
 abbrev pub labelled_step : {W : ℕ} → PlainTask → Bits W → ActionId → Option (ActionId × Bits W)
@@ -16,3 +18,11 @@ labelled_step t s a = option_map (λ u. (a, bits_of u)) (step t (members s) a)
 -- the steps from the state by actions that are not removed, in the order of the actions' numbers
 unfoldable pub successors_of : {W : ℕ} → PlainTask → List ActionId → Bits W → List (ActionId × Bits W)
 successors_of t removed s = filter_map (labelled_step t s) (allowed_of t removed)
+
+-- whether the goal holds in the state
+abbrev pub holds_in : {W : ℕ} → PlainTask → GoalId → Bits W → Bool
+holds_in t g s = goal_holds t g (members s)
+
+-- the level of the goal at the state
+abbrev pub level_in : {W : ℕ} → PlainTask → GoalId → List ActionId → Bits W → Option ℕ
+level_in t g removed s = level_at t g removed (members s)

@@ -1,9 +1,11 @@
 ghost use Rattle.std.specs.Prelude.{◌≡◌, ◌⊎◌, ℕ, ◌<◌, ◌≤◌, List, [], length, All, Some, IfOk, IfErr, slice_get};
+ghost use Rattle.grd_base.specs.declared.ids.ActionId.{ActionId};
+ghost use Rattle.grd_base.specs.declared.ids.GoalId.{GoalId};
 ghost use Rattle.grd_base.specs.Bits.{members};
 ghost use Rattle.strips_model.specs.Plans.{IsOver};
 ghost use Rattle.strips_model.specs.Values.{PlainTask};
 ghost use Rattle.optimal_search.specs.Rows.{rows_kept};
-ghost use Rattle.optimal_search.specs.Kept.{IsNumbered, AreNumbered, IsBoundOf, IsRaised, IsRaisedAt, KeepsRows};
+ghost use Rattle.optimal_search.specs.Kept.{IsNumbered, AreNumbered, IsBoundOf, IsRaised, IsRaisedAt, KeepsRows, proved_by};
 
 use cost_certificate::is_enough;
 use grd_base::{Bits, Bound, OutOfMemory};
@@ -11,11 +13,29 @@ use search_core::KeptRow;
 use state_store::StateStore;
 use std::alloc::Global;
 
+/// A bound that was proved for a state.
+#[derive(Clone, Copy)]
+pub(crate) struct ProvedBound {
+    pub(crate) bound: Bound,
+    /// Whether it was proved by the level, and not by steps.
+    pub(crate) by_level: bool,
+}
+
+/// The bound of a row, which a mark proves by the level.
+fn proved_by<const W: usize>(row: &KeptRow<Bits<W>, ()>) -> ProvedBound
+    ensures { result ≡ proved_by row.now }
+{
+    ProvedBound {
+        bound: row.bound,
+        by_level: row.mark.is_some(),
+    }
+}
+
 /// Numbered states, each with the best bound that was proved for it, or with none yet.
 #[derive(Drop)]
 pub(crate) struct Kept<const W: usize> {
     pub(crate) states: StateStore<W>,
-    pub(crate) bounds: Vec<Option<Bound>>,
+    pub(crate) bounds: Vec<Option<ProvedBound>>,
 }
 
 impl<const W: usize> Kept<W> {
@@ -59,7 +79,7 @@ impl<const W: usize> Kept<W> {
     }
 
     /// The bound of a state, if it has one.
-    pub(crate) fn bound_of(&mut self, s: &Bits<W>) -> Result<Option<Bound>, OutOfMemory>
+    pub(crate) fn bound_of(&mut self, s: &Bits<W>) -> Result<Option<ProvedBound>, OutOfMemory>
         requires width { W ≤ 64 }
         requires matched { length self.old.bounds.items ≡ length self.old.states }
         ensures matched { length self.new.bounds.items ≡ length self.new.states }
@@ -79,7 +99,8 @@ impl<const W: usize> Kept<W> {
         requires width { W ≤ 64 }
         requires matched { length self.old.bounds.items ≡ length self.old.states }
         ensures matched { length self.new.bounds.items ≡ length self.new.states }
-        ensures same { (t : PlainTask) → rows_kept t self.new.states self.new.bounds.items ≡ rows_kept t self.old.states self.old.bounds.items }
+        ensures same { (t : PlainTask) (g : GoalId) (removed : List ActionId)
+            → rows_kept t g removed self.new.states self.new.bounds.items ≡ rows_kept t g removed self.old.states self.old.bounds.items }
         ensures over { (t : PlainTask) → All (λ s. IsOver t (members s)) self.old.states
             → All (λ row. IsOver t (members row.state)) rows.now → All (λ s. IsOver t (members s)) self.new.states }
         ensures places { IfOk result (λ numbers. AreNumbered self.new.states numbers.items rows.now) }
@@ -92,18 +113,18 @@ impl<const W: usize> Kept<W> {
     }
 
     /// Raises the bound of the state of this number to at least the given one.
-    fn raise_to(&mut self, n: usize, bound: Bound)
+    fn raise_to(&mut self, n: usize, proved: ProvedBound)
         requires { n < length self.old.bounds.items }
         ensures states { self.new.states ≡ self.old.states }
-        ensures raised { IsRaisedAt self.old.bounds.items self.new.bounds.items n bound }
+        ensures raised { IsRaisedAt self.old.bounds.items self.new.bounds.items n proved }
     {
         match self.bounds[n] {
             Some(known) => {
-                if !is_enough(known, bound) {
-                    self.bounds[n] = Some(bound);
+                if !is_enough(known.bound, proved.bound) {
+                    self.bounds[n] = Some(proved);
                 }
             }
-            None => self.bounds[n] = Some(bound),
+            None => self.bounds[n] = Some(proved),
         }
     }
 
@@ -115,7 +136,7 @@ impl<const W: usize> Kept<W> {
         ensures raised { IsRaised self.old.states self.old.bounds.items self.new.bounds.items rows.now }
     {
         for i in 0..rows.len() {
-            self.raise_to(numbers[i], rows[i].bound);
+            self.raise_to(numbers[i], proved_by(&rows[i]));
         }
     }
 
@@ -130,8 +151,10 @@ impl<const W: usize> Kept<W> {
         ensures matched { length self.new.bounds.items ≡ length self.new.states }
         ensures over { (t : PlainTask) → All (λ s. IsOver t (members s)) self.old.states
             → All (λ row. IsOver t (members row.state)) rows.now → All (λ s. IsOver t (members s)) self.new.states }
-        ensures kept { IfOk result (λ _. (t : PlainTask) → KeepsRows t (rows_kept t self.old.states self.old.bounds.items) (rows_kept t self.new.states self.new.bounds.items) rows.now) }
-        ensures refused { IfErr result (λ _. (t : PlainTask) → rows_kept t self.new.states self.new.bounds.items ≡ rows_kept t self.old.states self.old.bounds.items) }
+        ensures kept { IfOk result (λ _. (t : PlainTask) (g : GoalId) (removed : List ActionId) → KeepsRows t g removed
+            (rows_kept t g removed self.old.states self.old.bounds.items) (rows_kept t g removed self.new.states self.new.bounds.items) rows.now) }
+        ensures refused { IfErr result (λ _. (t : PlainTask) (g : GoalId) (removed : List ActionId)
+            → rows_kept t g removed self.new.states self.new.bounds.items ≡ rows_kept t g removed self.old.states self.old.bounds.items) }
     {
         let numbers = self.numbers_of(alloc, rows)?;
         self.raise(&numbers, rows);

@@ -1,5 +1,4 @@
-ghost use Rattle.std.specs.Prelude.{◌≡◌, ◌+◌, ◌≤◌, ◌<◌, ◌*◌, [], length, IfOk, IfSome, IfNone, IsSomeAnd};
-ghost use Rattle.grd_base.specs.declared.limits.Bound.{Bound};
+ghost use Rattle.std.specs.Prelude.{◌≡◌, ℕ, ◌+◌, ◌≤◌, ◌<◌, ◌*◌, [], length, IfOk, IfSome, IfNone, IsSomeAnd};
 ghost use Rattle.grd_base.specs.declared.limits.Bound.TheVariants.{Steps};
 ghost use Rattle.optimal_search.specs.Least.{IsLeast, IsKnown, AreTooMany, left_of};
 
@@ -45,13 +44,14 @@ impl<T: Copy, M: Drop> Known<T, M> {
         }
     }
 
-    /// The number of steps of the next pass, or none where the path is a shortest one.
-    fn question(&self, limit: u32) -> Option<u32>
-        requires limit { limit ≤ 1000000 }
-        requires low { self.now.low ≤ limit }
+    /// The number of steps of the next pass, or none where the path is a shortest one. No pass is for
+    /// more than `last` steps.
+    fn question(&self, last: u32) -> Option<u32>
+        requires last { last ≤ 1004096 }
+        requires low { self.now.low ≤ last }
         requires ahead { self.now.ahead ≤ 3000000 }
-        requires path { IfSome self.now.path (λ path. length path.items ≤ limit) }
-        ensures asks { IfSome result (λ r. (self.now.low ≤ r) × (r ≤ limit) × (r ≤ self.now.low + self.now.ahead)) }
+        requires path { IfSome self.now.path (λ path. length path.items ≤ last) }
+        ensures asks { IfSome result (λ r. (self.now.low ≤ r) × (r ≤ last) × (r ≤ self.now.low + self.now.ahead)) }
         ensures shorter { IfSome result (λ r. IfSome self.now.path (λ path. r < length path.items)) }
         ensures settled { IfNone result (IsSomeAnd self.now.path (λ path. length path.items ≤ self.now.low)) }
     {
@@ -63,7 +63,7 @@ impl<T: Copy, M: Drop> Known<T, M> {
                 }
                 steps - 1
             }
-            None => limit,
+            None => last,
         };
         Some(most.min(self.low + self.ahead))
     }
@@ -72,7 +72,7 @@ impl<T: Copy, M: Drop> Known<T, M> {
     /// much and one more.
     fn raise(&mut self, r: u32, rows: Vec<KeptRow<T, M>>)
         requires low { self.old.low ≤ r }
-        requires small { r < 1000000 }
+        requires small { r < 1004096 }
         ensures low { self.new.low ≡ r + 1 }
         ensures ahead { self.new.ahead + 2 * self.old.low ≡ 2 * r + 1 }
         ensures path { self.new.path ≡ self.old.path }
@@ -95,30 +95,33 @@ impl<T: Copy, M: Drop> Known<T, M> {
     }
 }
 
-/// One pass, for `r` steps: it tells more than was known, or rows that refute any number of steps.
+/// One pass, for `r` steps: it tells more than was known, or rows that refute any number of steps. A
+/// path of at most `limit` steps, with the number that a mark shows for its end, comes to at most `last`
+/// steps, so that no pass for `last` steps answers No.
 fn pass<S: Space, F: Floor<S>>(
     alloc: Global,
     space: &S,
     floor: &F,
     start: S::State,
     limit: u32,
+    last: u32,
     known: &mut Known<S::State, F::Mark>,
     r: u32,
 ) -> Result<Option<Vec<KeptRow<S::State, F::Mark>>>, SearchFault>
-    requires limit { limit ≤ 1000000 }
-    requires zero { (s : S.State) (mark : F.Mark) (bound : Bound) → F.shows floor.now space.now s mark bound → bound ≡ Steps 0 }
-    requires known { IsKnown (S.next space.now) (S.is_done space.now) (S.level space.now) (F.shows floor.now space.now) start limit known.old }
+    requires last { last ≤ 1004096 }
+    requires shown { (s : S.State) (mark : F.Mark) (n : ℕ) → F.shows floor.now space.now s mark (Steps n) → limit + n ≤ last }
+    requires known { IsKnown (S.next space.now) (S.is_done space.now) (S.level space.now) (F.shows floor.now space.now) start limit last known.old }
     requires low { known.old.low ≤ r }
-    requires high { r ≤ limit }
+    requires high { r ≤ last }
     requires ahead { r ≤ known.old.low + known.old.ahead }
     requires shorter { IfSome known.old.path (λ path. r < length path.items) }
-    requires close { known.old.ahead ≤ 2 * limit + 1 }
+    requires close { known.old.ahead ≤ 2 * last + 1 }
     ensures known { IfOk result
         (λ never. IfNone never
-        (IsKnown (S.next space.now) (S.is_done space.now) (S.level space.now) (F.shows floor.now space.now) start limit known.new)) }
-    ensures close { IfOk result (λ never. IfNone never (known.new.ahead ≤ 2 * limit + 1)) }
+        (IsKnown (S.next space.now) (S.is_done space.now) (S.level space.now) (F.shows floor.now space.now) start limit last known.new)) }
+    ensures close { IfOk result (λ never. IfNone never (known.new.ahead ≤ 2 * last + 1)) }
     ensures less { IfOk result
-        (λ never. IfNone never (left_of limit known.new < left_of limit known.old)) }
+        (λ never. IfNone never (left_of last known.new < left_of last known.old)) }
     ensures nowhere { IfOk result
         (λ never. IfSome never
         (λ rows. IsLeast (S.next space.now) (S.is_done space.now) (S.level space.now) (F.shows floor.now space.now) start limit (Least.Nowhere rows))) }
@@ -147,25 +150,29 @@ fn pass<S: Space, F: Floor<S>>(
 }
 
 /// How far the nearest done state is from the start, by passes with more and more steps. The floor
-/// shows no number but 0. A pass counts at most `limit` states; where it would count more, the next looks
-/// half as far, down to the fewest steps that are not refuted.
+/// shows no number above `highest`. A pass counts at most `limit` states; where it would count more, the
+/// next looks half as far, down to the fewest steps that are not refuted.
 pub(crate) fn find_least<S: Space, F: Floor<S>>(
     alloc: Global,
     space: &S,
     floor: &F,
     start: S::State,
     limit: u32,
+    highest: u32,
 ) -> Result<Least<S::State, F::Mark>, SearchFault>
     requires limit { limit ≤ 1000000 }
-    requires zero { (s : S.State) (mark : F.Mark) (bound : Bound) → F.shows floor.now space.now s mark bound → bound ≡ Steps 0 }
+    requires highest { highest ≤ 4096 }
+    requires shown { (s : S.State) (mark : F.Mark) (n : ℕ) → F.shows floor.now space.now s mark (Steps n) → n ≤ highest }
     ensures least { IfOk result
         (IsLeast (S.next space.now) (S.is_done space.now) (S.level space.now) (F.shows floor.now space.now) start limit) }
     ensures many { result ≡ Err SearchFault.TooManyStates
         → AreTooMany (S.next space.now) (S.is_done space.now) (S.level space.now) start limit }
 {
+    // Where no path is found, a pass for fewer steps than this answers No.
+    let last = limit + highest;
     let mut known = Known::new(alloc);
-    while let Some(r) = known.question(limit) {
-        if let Some(rows) = pass(alloc, space, floor, start, limit, &mut known, r)? {
+    while let Some(r) = known.question(last) {
+        if let Some(rows) = pass(alloc, space, floor, start, limit, last, &mut known, r)? {
             return Ok(Least::Nowhere(rows));
         }
     }

@@ -8,20 +8,20 @@ ghost use Rattle.strips_model.specs.Plans.{set_of, Reaches, IsCost, IsOver};
 ghost use Rattle.cost_certificate.specs.Rows.{PlainRow};
 ghost use Rattle.cost_certificate.specs.Tables.{HasRow, IsRowOver, IsValidTable, Refutes};
 ghost use Rattle.optimal_search.specs.Rows.{row_of, rows_kept};
-ghost use Rattle.strips_model.specs.Reached.{IsWithinSteps, IsReachedWithout};
+ghost use Rattle.strips_model.specs.Reached.{IsNearWithin, IsNearWithout};
 ghost use Rattle.optimal_search.specs.Oracles.{IsAlike, HasAllOf, IsSoundOracle, HasStartRow};
 
 use crate::kept::Kept;
 use crate::least::{Least, find_least};
-use crate::rows::row_by_steps;
-use crate::space::{TaskSpace, ZeroFloor, known_task};
+use crate::rows::row_at;
+use crate::space::{SpaceFloor, TaskSpace};
 use cost_certificate::{Row, Table, is_enough, rows_refute};
 use grd_base::{ActionId, ActionSet, Bits, Bound, GoalId, Limits, OutOfMemory, whole};
 use search_core::{KeptRow, SearchFault, WithinAnswer, within};
 use state_store::StateStore;
 use std::alloc::Global;
 use std::marker::Model;
-use strips_model::{Task, start};
+use strips_model::{Task, fits, known_task, start};
 
 /// Answers questions about one task, one goal and one set of removed actions, and keeps the rows that
 /// it proves: they are a valid table after every call, also after one that was refused.
@@ -40,14 +40,14 @@ impl<'t, const W: usize> Model for Oracle<'t, W> {
     ghost Value = { PlainOracle };
 
     ghost view = { λ o. record {
-      task = o.space.moves.task;
+      task = o.space.task.now;
       goal = o.space.goal;
-      removed = o.space.moves.removed;
+      removed = o.space.removed.now;
       limit = o.limit;
-      rows = rows_kept o.space.moves.task o.kept.states o.kept.bounds.items;
+      rows = rows_kept o.space.task.now o.space.goal o.space.removed.now o.kept.states o.kept.bounds.items;
     } };
 
-    ghost invariant = { λ o. AreKept o.space.moves.task o.space.goal o.space.moves.removed o.kept.states o.kept.bounds.items × (o.limit ≤ 1000000) };
+    ghost invariant = { λ o. AreKept o.space.task.now o.space.goal o.space.removed.now o.kept.states o.kept.bounds.items × (o.limit ≤ 1000000) };
 }
 
 impl<'t, const W: usize> Oracle<'t, W> {
@@ -88,7 +88,7 @@ impl<'t, const W: usize> Oracle<'t, W> {
         ensures grows { HasAllOf self.old.rows self.new.rows }
         ensures sound { IsSoundOracle self.new }
         ensures many { result ≡ Err SearchFault.TooManyStates
-            → MoreThan self.old.limit (IsReachedWithout self.old.task self.old.goal self.old.removed) }
+            → MoreThan self.old.limit (IsNearWithout self.old.task self.old.goal self.old.removed) }
     {
         // Reading a field tells how wide the states are.
         let _limit = self.limit;
@@ -116,7 +116,7 @@ impl<'t, const W: usize> Oracle<'t, W> {
         ensures grows { HasAllOf self.old.rows self.new.rows }
         ensures sound { IsSoundOracle self.new }
         ensures many { result ≡ Err SearchFault.TooManyStates
-            → MoreThan self.old.limit (IsWithinSteps self.old.task self.old.removed (members s.now) r) }
+            → MoreThan self.old.limit (IsNearWithin self.old.task self.old.goal self.old.removed (members s.now) r) }
     {
         rows_refute();
         if self.is_known(s, r)? {
@@ -127,13 +127,14 @@ impl<'t, const W: usize> Oracle<'t, W> {
         Ok(path)
     }
 
-    /// The rows as a table, all by steps, in the order in which their states were numbered.
+    /// The rows as a table, in the order in which their states were numbered. Those that the level refutes
+    /// are by cuts.
     pub fn table(&self, alloc: Global) -> Result<Table, OutOfMemory>
         ensures rows { IfOk result (λ table. table ≡ self.now.rows) }
         ensures sound { IsSoundOracle self.now }
         ensures over { All (IsRowOver self.now.task) self.now.rows }
     {
-        let rows = rows_of(alloc, self.space.task(), &self.kept)?;
+        let rows = rows_of(alloc, &self.space, &self.kept)?;
         Ok(Table { rows })
     }
 
@@ -143,19 +144,27 @@ impl<'t, const W: usize> Oracle<'t, W> {
         alloc: Global,
     ) -> Result<(Option<u32>, Vec<KeptRow<Bits<W>, ()>>), SearchFault>
         ensures cost { IfOk result (λ found. IsCost self.now.task self.now.goal self.now.removed found.0) }
-        ensures start { IfOk result (λ found. HasStartRow self.now.task (map (row_of self.now.task) found.1.items) found.0) }
+        ensures start { IfOk result (λ found. HasStartRow self.now.task (map (row_of self.now.task self.now.goal self.now.removed) found.1.items) found.0) }
         ensures over { IfOk result (λ found. All (λ row. IsOver self.now.task (members row.state)) found.1.items) }
         ensures valid { IfOk result (λ found. IsValidTable self.now.task self.now.goal self.now.removed
-            (map (row_of self.now.task) found.1.items)) }
+            (map (row_of self.now.task self.now.goal self.now.removed) found.1.items)) }
         ensures sound { IsSoundOracle self.now }
         ensures many { result ≡ Err SearchFault.TooManyStates
-            → MoreThan self.now.limit (IsReachedWithout self.now.task self.now.goal self.now.removed) }
+            → MoreThan self.now.limit (IsNearWithout self.now.task self.now.goal self.now.removed) }
     {
         let task = self.space.task();
         known_task(task);
+        fits(task);
         let first = start(task);
         whole(&first);
-        match find_least(alloc, &self.space, &ZeroFloor, first, self.limit)? {
+        match find_least(
+            alloc,
+            &self.space,
+            &SpaceFloor,
+            first,
+            self.limit,
+            task.atoms,
+        )? {
             Least::Path(plan, rows) => Ok((Some(plan.len() as u32), rows)),
             Least::Nowhere(rows) => Ok((None, rows)),
         }
@@ -174,16 +183,16 @@ impl<'t, const W: usize> Oracle<'t, W> {
             (λ path. Reaches self.now.task self.now.goal self.now.removed (members s.now) path.items
             × (length path.items ≤ r))) }
         ensures row { IfOk result (λ found. IfNone found.0
-            (HasRow (map (row_of self.now.task) found.1.items) (members s.now) (Steps r))) }
+            (HasRow (map (row_of self.now.task self.now.goal self.now.removed) found.1.items) (members s.now) (Steps r))) }
         ensures over { IfOk result (λ found. All (λ row. IsOver self.now.task (members row.state)) found.1.items) }
         ensures valid { IfOk result (λ found. IsValidTable self.now.task self.now.goal self.now.removed
-            (map (row_of self.now.task) found.1.items)) }
+            (map (row_of self.now.task self.now.goal self.now.removed) found.1.items)) }
         ensures many { result ≡ Err SearchFault.TooManyStates
-            → MoreThan self.now.limit (IsWithinSteps self.now.task self.now.removed (members s.now) r) }
+            → MoreThan self.now.limit (IsNearWithin self.now.task self.now.goal self.now.removed (members s.now) r) }
     {
         known_task(self.space.task());
         whole(s);
-        match within(alloc, &self.space, &ZeroFloor, *s, r, self.limit)? {
+        match within(alloc, &self.space, &SpaceFloor, *s, r, self.limit)? {
             WithinAnswer::Yes(path) => Ok((Some(path), Vec::new(alloc))),
             WithinAnswer::No(rows) | WithinAnswer::Never(rows) => Ok((None, rows)),
         }
@@ -198,7 +207,7 @@ impl<'t, const W: usize> Oracle<'t, W> {
         ensures row { IfOk result (λ known. IsTrue known → HasRow self.new.rows (members s.now) (Steps r)) }
     {
         match self.kept.bound_of(s)? {
-            Some(bound) => Ok(is_enough(bound, Bound::Steps(r))),
+            Some(proved) => Ok(is_enough(proved.bound, Bound::Steps(r))),
             None => Ok(false),
         }
     }
@@ -206,11 +215,11 @@ impl<'t, const W: usize> Oracle<'t, W> {
     /// Keeps the rows of a search. Where memory is wanting the rows stay as they are.
     fn keep(&mut self, alloc: Global, rows: &[KeptRow<Bits<W>, ()>]) -> Result<(), OutOfMemory>
         requires over { All (λ row. IsOver self.old.task (members row.state)) rows.now }
-        requires valid { IsValidTable self.old.task self.old.goal self.old.removed (map (row_of self.old.task) rows.now) }
+        requires valid { IsValidTable self.old.task self.old.goal self.old.removed (map (row_of self.old.task self.old.goal self.old.removed) rows.now) }
         ensures alike { IsAlike self.old self.new }
         ensures grows { HasAllOf self.old.rows self.new.rows }
         ensures sound { IsSoundOracle self.new }
-        ensures held { IfOk result (λ _. HasAllOf (map (row_of self.old.task) rows.now) self.new.rows) }
+        ensures held { IfOk result (λ _. HasAllOf (map (row_of self.old.task self.old.goal self.old.removed) rows.now) self.new.rows) }
     {
         self.kept.keep(alloc, rows)
     }
@@ -219,20 +228,19 @@ impl<'t, const W: usize> Oracle<'t, W> {
 /// The rows of those states that have a bound.
 fn rows_of<const W: usize>(
     alloc: Global,
-    task: &Task,
+    space: &TaskSpace<W>,
     kept: &Kept<W>,
 ) -> Result<Vec<Row>, OutOfMemory>
-    requires width { W ≤ 64 }
-    requires atoms { task.now.atoms ≤ 64 * W }
-    requires over { All (λ s. IsOver task.now (members s)) kept.now.states }
+    requires over { All (λ s. IsOver space.now.task.now (members s)) kept.now.states }
     requires matched { length kept.now.bounds.items ≡ length kept.now.states }
-    ensures { IfOk result (λ rows. rows.items ≡ rows_kept task.now kept.now.states kept.now.bounds.items) }
+    ensures { IfOk result (λ rows. rows.items
+        ≡ rows_kept space.now.task.now space.now.goal space.now.removed.now kept.now.states kept.now.bounds.items) }
 {
     let mut rows = Vec::new(alloc);
     for n in 0..kept.bounds.len() {
-        if let Some(bound) = kept.bounds[n] {
+        if let Some(proved) = kept.bounds[n] {
             let s = state_at(&kept.states, n)?;
-            rows.push(row_by_steps(alloc, task, s, bound)?)?;
+            rows.push(row_at(alloc, space, s, proved.bound, proved.by_level)?)?;
         }
     }
     Ok(rows)

@@ -1,25 +1,34 @@
 ghost use Rattle.std.specs.Prelude.{◌≡◌, ◌*◌, ◌<◌, ◌≤◌, length, IfOk};
-ghost use Rattle.strips_model.specs.Moves.{PlainMoves};
-ghost use Rattle.strips_model.specs.Values.{IsTask};
+ghost use Rattle.grd_base.specs.Bits.{members};
+ghost use Rattle.strips_model.specs.Plans.{IsOver};
+ghost use Rattle.level_bounds.specs.Floors.{family_of};
 
 use grd_base::{ActionId, ActionSet, Bits, Bound, GoalId, OutOfMemory, packed, whole};
+use level_bounds::LevelFloor;
 use search_core::{Floor, Space};
 use std::alloc::Global;
-use strips_model::{Moves, Task, advance, holds};
+use strips_model::{Family, Task, apply_in, holds, known_task};
+use succ_table::SuccTable;
 
 /// The space of a task, a goal and removed actions: its states are those of the task, its steps are by
-/// actions that are not removed, and its done states are those in which the goal holds.
+/// actions that are not removed, its done states are those in which the goal holds, and its levels are
+/// those of the goal.
 #[derive(Drop)]
 pub(crate) struct TaskSpace<'t, const W: usize> {
-    moves: Moves<'t>,
+    task: &'t Task,
     goal: GoalId,
+    removed: &'t ActionSet,
+    table: SuccTable<'t>,
+    floor: LevelFloor<'t>,
     ghost width: { W ≤ 64 },
-    ghost atoms: { moves.task.atoms ≤ 64 * W },
-    ghost goal_in: { goal.0 < length moves.task.goals },
+    ghost atoms: { task.now.atoms ≤ 64 * W },
+    ghost goal_in: { goal.0 < length task.now.goals },
+    ghost table_of: { table ≡ task.now },
+    ghost floor_of: { floor ≡ (record { task = task.now; goal = goal; removed = removed.now }) },
 }
 
 impl<'t, const W: usize> TaskSpace<'t, W> {
-    /// The space, with the allowed actions of the task gathered.
+    /// The space, with the table of the task and the floor of the goal.
     pub(crate) fn new(
         alloc: Global,
         task: &'t Task,
@@ -29,41 +38,54 @@ impl<'t, const W: usize> TaskSpace<'t, W> {
         requires width { W ≤ 64 }
         requires atoms { task.now.atoms ≤ 64 * W }
         requires goal { goal.0 < length task.now.goals }
-        ensures moves { IfOk result
-            (λ space. space.moves ≡ (record { task = task.now; removed = removed.now })) }
+        ensures task { IfOk result (λ space. space.task.now ≡ task.now) }
         ensures goal { IfOk result (λ space. space.goal ≡ goal) }
+        ensures removed { IfOk result (λ space. space.removed.now ≡ removed.now) }
     {
-        let moves = Moves::of(alloc, task, removed)?;
-        Ok(TaskSpace { moves, goal })
+        let table = SuccTable::build(alloc, task)?;
+        let floor = LevelFloor::new(alloc, task, goal, removed)?;
+        Ok(TaskSpace {
+            task,
+            goal,
+            removed,
+            table,
+            floor,
+        })
     }
 
     /// The task.
     pub(crate) fn task(&self) -> &'t Task
-        ensures { result.now ≡ self.now.moves.task }
+        ensures { result.now ≡ self.now.task.now }
     {
-        self.moves.task()
+        self.task
+    }
+
+    /// The family that shows the level of the goal at a state of the task.
+    pub(crate) fn family_at(&self, alloc: Global, s: &Bits<W>) -> Result<Family, OutOfMemory>
+        requires over { IsOver self.now.task.now (members s.now) }
+        ensures { IfOk result (λ family.
+            family ≡ family_of self.now.task.now self.now.goal self.now.removed.now (members s.now)) }
+    {
+        self.floor.family_at(alloc, s)
     }
 }
 
 impl<'t, const W: usize> Space for TaskSpace<'t, W> {
     type State = Bits<W>;
 
-    ghost use Rattle.std.specs.Prelude.{Some};
-    ghost use Rattle.grd_base.specs.Bits.{members};
-    ghost use Rattle.strips_model.specs.Plans.{goal_holds};
-    ghost use Rattle.optimal_search.specs.Space.{successors_of};
+    ghost use Rattle.optimal_search.specs.Space.{successors_of, holds_in, level_in};
     ghost use Rattle.optimal_search.specs.Floors.{bits_same};
 
-    ghost next = { λ space s. successors_of space.moves.task space.moves.removed s };
+    ghost next = { λ space s. successors_of space.task.now space.removed.now s };
 
-    ghost is_done = { λ space s. goal_holds space.moves.task space.goal (members s) };
+    ghost is_done = { λ space s. holds_in space.task.now space.goal s };
 
-    ghost level = { λ _ _. Some 0 };
+    ghost level = { λ space s. level_in space.task.now space.goal space.removed.now s };
 
     ghost same = { bits_same };
 
     fn done(&self, s: &Bits<W>) -> bool {
-        holds(self.moves.task(), s, self.goal)
+        holds(self.task, s, self.goal)
     }
 
     fn successors(
@@ -72,61 +94,54 @@ impl<'t, const W: usize> Space for TaskSpace<'t, W> {
         s: &Bits<W>,
     ) -> Result<Vec<(ActionId, Bits<W>)>, OutOfMemory> {
         packed::<W>();
-        let task = self.moves.task();
-        let allowed = self.moves.allowed();
-        let mut steps = Vec::new(alloc);
-        for a in allowed {
-            if let Some(next) = advance(task, s, *a) {
-                whole(&next);
-                steps.push((*a, next))?;
-            }
+        let found = self.table.applicable(alloc, s, self.removed)?;
+        let mut steps = Vec::with_capacity(alloc, found.len())?;
+        for a in &found {
+            let mut next = *s;
+            apply_in(self.task, &mut next, *a);
+            whole(&next);
+            steps.push((*a, next))?;
         }
         Ok(steps)
     }
 }
 
-/// What holds of every task holds of this one.
-pub(crate) fn known_task(task: &Task)
-    ensures { IsTask task.now }
-{
-    let _atoms = task.atoms;
-}
-
-/// At least no step.
+/// The floor that the space keeps: the level of its goal.
 #[derive(Drop)]
-pub(crate) struct ZeroFloor;
+pub(crate) struct SpaceFloor;
 
-impl<'t, const W: usize> Floor<TaskSpace<'t, W>> for ZeroFloor {
+impl<'t, const W: usize> Floor<TaskSpace<'t, W>> for SpaceFloor {
     type Mark = ();
 
-    type Why = ();
+    type Why = Family;
 
-    ghost use Rattle.std.specs.Prelude.{◌≡◌};
-    ghost use Rattle.grd_base.specs.declared.limits.Bound.TheVariants.{Steps};
-    ghost use Rattle.optimal_search.specs.Floors.{zero_admissible};
+    ghost use Rattle.optimal_search.specs.Floors.{shows_level, IsLevelProof, level_admissible};
 
-    ghost shows = { λ _ _ _ _ bound. bound ≡ Steps 0 };
+    ghost shows = { λ _ space s mark bound. shows_level space.task.now space.goal space.removed.now s mark bound };
 
-    ghost proves = { λ _ _ _ _ bound. bound ≡ Steps 0 };
+    ghost proves = { λ _ space s family bound. IsLevelProof space.task.now space.goal space.removed.now s family bound };
 
-    ghost admissible = { λ _ _ s _ bound is. zero_admissible _ _ s bound is };
+    ghost admissible = { λ _ space s _ bound is. level_admissible _ _ _ s bound is };
 
     fn at_least(
         &self,
-        _alloc: Global,
-        _space: &TaskSpace<'t, W>,
-        _s: &Bits<W>,
+        alloc: Global,
+        space: &TaskSpace<'t, W>,
+        s: &Bits<W>,
     ) -> Result<(Bound, ()), OutOfMemory> {
-        Ok((Bound::Steps(0), ()))
+        known_task(space.task);
+        let bound = space.floor.bound_at(alloc, s)?;
+        Ok((bound, ()))
     }
 
     fn why(
         &self,
-        _alloc: Global,
-        _space: &TaskSpace<'t, W>,
-        _s: &Bits<W>,
+        alloc: Global,
+        space: &TaskSpace<'t, W>,
+        s: &Bits<W>,
         _mark: &(),
-    ) -> Result<(), OutOfMemory> {
-        Ok(())
+    ) -> Result<Family, OutOfMemory> {
+        known_task(space.task);
+        space.floor.family_at(alloc, s)
     }
 }

@@ -1,7 +1,7 @@
 ghost use Rattle.std.specs.Prelude.{◌≡◌, ◌<◌, IfOk, length, [], ◌∷◌, false};
 
 use super::*;
-use cost_certificate::valid_table;
+use cost_certificate::{Why, valid_table};
 use grd_base::{ActionId, ActionSet, AtomId, Bits, GoalId, Limits};
 use search_core::SearchFault;
 use std::alloc::Global;
@@ -37,29 +37,45 @@ fn only(alloc: Global, p: u32) -> Result<Condition, Fail>
     })
 }
 
-// Fork: from atom 0 by (a) to 1, by (b) to 2, and from there by (l) to 3 or by (r) to 4. Nothing
-// leads to atom 5. Its goals are the two atoms.
+fn both(alloc: Global, p: u32, q: u32) -> Result<Condition, Fail>
+    ensures { IfOk result (λ g. g ≡ (record {
+      atoms = (record { 0 = p }) ∷ (record { 0 = q }) ∷ [];
+      blocked = false;
+    })) }
+{
+    Ok(Condition {
+        atoms: vec![in alloc; AtomId(p), AtomId(q)]?,
+        blocked: false,
+    })
+}
+
+// Fork: from atom 0 by (a) to 1, by (b) to 2, and from there by (l) to 3 or by (r) to 4; or from atom 0 by
+// (x) to 6 or by (y) to 7, which are dead ends. Nothing leads to atom 5. Its goals are the two atoms, and 3
+// and 4 at once: the level of that goal is a number at atoms 0, 1 and 2 alone, and no plan reaches it.
 fn fork(alloc: Global, first: u32, second: u32) -> Result<Task, Fail>
-    requires first { first < 6 }
-    requires second { second < 6 }
-    ensures atoms { IfOk result (λ t. t.atoms ≡ 6) }
-    ensures goals { IfOk result (λ t. length t.goals ≡ 2) }
+    requires first { first < 8 }
+    requires second { second < 8 }
+    ensures atoms { IfOk result (λ t. t.atoms ≡ 8) }
+    ensures goals { IfOk result (λ t. length t.goals ≡ 3) }
 {
     let a = from_to(alloc, 0, 1)?;
     let b = from_to(alloc, 1, 2)?;
     let l = from_to(alloc, 2, 3)?;
     let r = from_to(alloc, 2, 4)?;
+    let x = from_to(alloc, 0, 6)?;
+    let y = from_to(alloc, 0, 7)?;
     let first = only(alloc, first)?;
     let second = only(alloc, second)?;
+    let third = both(alloc, 3, 4)?;
     Ok(Task {
-        atoms: 6,
+        atoms: 8,
         init: vec![in alloc; AtomId(0)]?,
-        actions: vec![in alloc; a, b, l, r]?,
-        goals: vec![in alloc; first, second]?,
+        actions: vec![in alloc; a, b, l, r, x, y]?,
+        goals: vec![in alloc; first, second, third]?,
     })
 }
 
-// The first states of a search may be so many.
+// A search may count so many states.
 fn up_to(states: u32) -> Limits
     ensures states { result.states ≡ states }
     ensures sets { result.sets ≡ 0 }
@@ -75,9 +91,9 @@ fn steps_from(
     atom: u32,
     most: u32,
 ) -> Result<Option<usize>, SearchFault>
-    requires atom { atom < 6 }
-    requires fork { oracle.old.task.atoms ≡ 6 }
-    ensures { oracle.new.task.atoms ≡ 6 }
+    requires atom { atom < 8 }
+    requires fork { oracle.old.task.atoms ≡ 8 }
+    ensures { oracle.new.task.atoms ≡ 8 }
 {
     let mut s = Bits::new();
     s.insert(atom);
@@ -93,38 +109,42 @@ const L: ActionId = ActionId(2);
 
 const R: ActionId = ActionId(3);
 
+// Seven states are reached; for each of the two atoms four of them are near.
 #[test]
 fn costs_have_plans_and_tables(rt: HostRuntime) -> Result<(), Fail> {
     let task = fork(rt.alloc(), 3, 4)?;
     let found = costs(rt.alloc(), &task, up_to(4)).map_err(|_| "no costs")?;
-    assert_eq!(rt; found.len(), 2);
+    assert_eq!(rt; found.len(), 3);
     for (goal, last) in [(0, L), (1, R)] {
         let one = found.get(goal).ok_or("a goal")?;
         assert!(rt; one.cost == Some(3) && one.plan.as_slice() == [A, B, last].as_slice());
-        assert_eq!(rt; one.table.rows.len(), 3, "{goal}");
+        assert_eq!(rt; one.table.rows.len(), 1, "{goal}");
+    }
+    Ok(())
+}
+
+// No state is near for atom 5, and three are for the two atoms at once.
+#[test]
+fn tables_are_empty_for_no_cost_and_never_for_none(rt: HostRuntime) -> Result<(), Fail> {
+    let task = fork(rt.alloc(), 0, 5)?;
+    let found = costs(rt.alloc(), &task, up_to(3)).map_err(|_| "no costs")?;
+    let held = found.get(0).ok_or("a goal")?;
+    assert!(rt; held.cost == Some(0) && held.plan.is_empty() && held.table.rows.is_empty());
+    for (goal, rows) in [(1, 1), (2, 7)] {
+        let none = found.get(goal).ok_or("a goal")?;
+        assert!(rt; none.cost.is_none() && none.plan.is_empty());
+        assert_eq!(rt; none.table.rows.len(), rows, "{goal}");
     }
     Ok(())
 }
 
 #[test]
-fn tables_are_empty_for_no_cost_and_never_for_none(rt: HostRuntime) -> Result<(), Fail> {
-    let task = fork(rt.alloc(), 0, 5)?;
-    let found = costs(rt.alloc(), &task, up_to(5)).map_err(|_| "no costs")?;
-    let held = found.get(0).ok_or("a goal")?;
-    assert!(rt; held.cost == Some(0) && held.plan.is_empty() && held.table.rows.is_empty());
-    let none = found.get(1).ok_or("a goal")?;
-    assert!(rt; none.cost.is_none() && none.plan.is_empty());
-    assert_eq!(rt; none.table.rows.len(), 5);
-    Ok(())
-}
-
-#[test]
 fn goal_that_meets_the_limit_is_told(rt: HostRuntime) -> Result<(), Fail> {
-    for (first, second, limit, goal) in [(3, 4, 2, 0), (1, 4, 2, 1), (0, 5, 4, 1)] {
+    for (first, second, goal) in [(3, 4, 0), (1, 4, 1), (0, 5, 2)] {
         let task = fork(rt.alloc(), first, second)?;
-        let fault = costs(rt.alloc(), &task, up_to(limit)).err();
+        let fault = costs(rt.alloc(), &task, up_to(2)).err();
         let want = Some(GoalSearchFault::TooManyStates(GoalId(goal)));
-        assert_eq!(rt; fault, want, "goals {first} and {second}, {limit} states");
+        assert_eq!(rt; fault, want, "goals {first} and {second}");
     }
     Ok(())
 }
@@ -133,11 +153,11 @@ fn goal_that_meets_the_limit_is_told(rt: HostRuntime) -> Result<(), Fail> {
 fn oracle_answers_the_same_twice(rt: HostRuntime) -> Result<(), Fail> {
     let task = fork(rt.alloc(), 3, 4)?;
     let none = ActionSet::new(rt.alloc());
-    let mut oracle = Oracle::<1>::new(rt.alloc(), &task, GoalId(0), &none, up_to(5))?;
+    let mut oracle = Oracle::<1>::new(rt.alloc(), &task, GoalId(0), &none, up_to(4))?;
     assert_eq!(rt; oracle.cost(rt.alloc()), Ok(Some(3)));
     assert_eq!(rt; oracle.cost(rt.alloc()), Ok(Some(3)));
     let table = oracle.table(rt.alloc())?;
-    assert_eq!(rt; table.rows.len(), 3);
+    assert_eq!(rt; table.rows.len(), 1);
     assert_eq!(rt;
         valid_table(rt.alloc(), &task, GoalId(0), &none, &table)?,
         None
@@ -145,13 +165,15 @@ fn oracle_answers_the_same_twice(rt: HostRuntime) -> Result<(), Fail> {
     Ok(())
 }
 
+// Without (b) no state is near.
 #[test]
 fn oracle_finds_no_plan_without_a_removed_action(rt: HostRuntime) -> Result<(), Fail> {
     let task = fork(rt.alloc(), 3, 4)?;
     let removed = ActionSet::new(rt.alloc()).with(rt.alloc(), B)?;
-    let mut oracle = Oracle::<2>::new(rt.alloc(), &task, GoalId(1), &removed, up_to(5))?;
+    let mut oracle = Oracle::<2>::new(rt.alloc(), &task, GoalId(1), &removed, up_to(0))?;
     assert_eq!(rt; oracle.cost(rt.alloc()), Ok(None));
     let table = oracle.table(rt.alloc())?;
+    assert_eq!(rt; table.rows.len(), 1);
     assert_eq!(rt;
         valid_table(rt.alloc(), &task, GoalId(1), &removed, &table)?,
         None
@@ -163,7 +185,7 @@ fn oracle_finds_no_plan_without_a_removed_action(rt: HostRuntime) -> Result<(), 
 fn oracle_tells_how_far_a_state_is(rt: HostRuntime) -> Result<(), Fail> {
     let task = fork(rt.alloc(), 3, 4)?;
     let none = ActionSet::new(rt.alloc());
-    let mut oracle = Oracle::<1>::new(rt.alloc(), &task, GoalId(0), &none, up_to(5))?;
+    let mut oracle = Oracle::<1>::new(rt.alloc(), &task, GoalId(0), &none, up_to(4))?;
     for (atom, most, want) in [
         (0, 2, None),
         (0, 2, None),
@@ -177,7 +199,7 @@ fn oracle_tells_how_far_a_state_is(rt: HostRuntime) -> Result<(), Fail> {
         assert_eq!(rt; steps, Ok(want), "from {atom} in {most}");
     }
     let table = oracle.table(rt.alloc())?;
-    assert_eq!(rt; table.rows.len(), 4);
+    assert_eq!(rt; table.rows.len(), 3);
     assert_eq!(rt;
         valid_table(rt.alloc(), &task, GoalId(0), &none, &table)?,
         None
@@ -185,20 +207,27 @@ fn oracle_tells_how_far_a_state_is(rt: HostRuntime) -> Result<(), Fail> {
     Ok(())
 }
 
+// Three states are near for both atoms at once. From atom 1 two are, and their rows are by steps; those of
+// atoms 3 and 4, from which the goal is never reached, are by cuts.
 #[test]
 fn oracle_keeps_a_valid_table_behind_a_limit(rt: HostRuntime) -> Result<(), Fail> {
     let task = fork(rt.alloc(), 3, 4)?;
     let none = ActionSet::new(rt.alloc());
-    let mut oracle = Oracle::<1>::new(rt.alloc(), &task, GoalId(0), &none, up_to(2))?;
+    let mut oracle = Oracle::<1>::new(rt.alloc(), &task, GoalId(2), &none, up_to(2))?;
     assert_eq!(rt; oracle.cost(rt.alloc()), Err(SearchFault::TooManyStates));
     let far = steps_from(rt.alloc(), &mut oracle, 0, 3);
     assert_eq!(rt; far, Err(SearchFault::TooManyStates));
-    let near = steps_from(rt.alloc(), &mut oracle, 1, 1);
+    let near = steps_from(rt.alloc(), &mut oracle, 1, 2);
     assert_eq!(rt; near, Ok(None));
     let table = oracle.table(rt.alloc())?;
-    assert_eq!(rt; table.rows.len(), 2);
+    let by_steps = table
+        .rows
+        .iter()
+        .filter(|row| matches!(row.why, Why::Steps))
+        .count();
+    assert_eq!(rt; (table.rows.len(), by_steps), (4, 2));
     assert_eq!(rt;
-        valid_table(rt.alloc(), &task, GoalId(0), &none, &table)?,
+        valid_table(rt.alloc(), &task, GoalId(2), &none, &table)?,
         None
     );
     Ok(())

@@ -12,7 +12,7 @@ use Rattle.grd_base.specs.declared.limits.Bound.TheVariants.{Steps, Never}
 use Rattle.search_core.specs.declared.rows.KeptRow.{KeptRow}
 use Rattle.search_core.specs.declared.rows.WithinAnswer.TheVariants as answer
 use Rattle.grd_base.specs.Counts.{AllDistinct}
-use Rattle.search_core.specs.Spaces.{Successors, IsDoneWithin, IsAdmissible, IsAbove, IsAtLeast, Counts}
+use Rattle.search_core.specs.Spaces.{Successors, actions_of, IsDoneWithin, IsReachable, IsAdmissible, IsAbove, IsAtLeast, Counts}
 use Rattle.search_core.specs.Tables.{HasRow, HasNeverRow, IsRefuted, IsRefutedBySteps, IsRefutedByMark, AreRefuted, AreCounted, unmarked, with_unmarked}
 use Rattle.search_core.specs.Answers.{IsBeyond}
 use Rattle.search_core.specs.Progress.{Entry, IsProgress, IsKept, IsCutOff, IsCut, IsHeldBy, kept_states, state_if_kept}
@@ -80,9 +80,15 @@ module _ {S M : Type 0} (next : Successors S) (is_done : S → Bool) (level : S 
   held_after : (i : ℕ) (e : Entry S M) (step : ActionId × S) → slice_get xs i ≡ Some e → e.1.mark ≡ None → Contains (next e.0) step → IsHeldBy xs step.1 (e.1.way.depth + 1)
   held_after i e step got none has = All-contains (λ (s : ActionId × S). IsHeldBy xs s.1 (e.1.way.depth + 1)) (next e.0) step (whole.expanded i e (slice_get_within xs i e got) got none) has
 
-  -- the unmarked rows have the states without a mark
-  counted_of : (rows : List (KeptRow S M)) → unmarked rows ≡ kept_states xs → AreCounted next level start r limit rows
-  counted_of rows same = record {
+  -- the path to an entry is the actions of its walk
+  reachable : (i : ℕ) (e : Entry S M) → slice_get xs i ≡ Some e → IsReachable next start e.0
+  reachable i e got = let reached = (p.each i e got).reached in
+      record { path = actions_of reached.walk; leads = record { walk = reached.walk; steps = reached.steps; carries = refl; ends = reached.ends } }
+
+  -- rows of reached states, the unmarked ones of which have the states without a mark
+  counted_of : (rows : List (KeptRow S M)) → All (λ row. IsReachable next start row.state) rows → unmarked rows ≡ kept_states xs → AreCounted next level start r limit rows
+  counted_of rows reached same = record {
+    reached = reached;
     count = let P : List S → Type 0 = All (Counts next level start r) in subst P (sym same) (kept_all (Counts next level start r) xs (λ i e got none. (near_kept i e got none).counts));
     distinct = let P : List S → Type 0 = AllDistinct in subst P (sym same) (kept_distinct xs p.apart);
     few = let long : length (unmarked rows) ≡ kept = ap length same ∙ p.kept_is in omega (arith, long, p.few);
@@ -123,6 +129,11 @@ module _ {S M : Type 0} (next : Successors S) (is_done : S → Bool) (level : S 
   all_refuted = filter_map_all (row_within r) (IsRefuted next is_done shows rows) xs
       (λ i e row got is. let from = row_from r e row is in let P : KeptRow S M → Type 0 = IsRefuted next is_done shows rows in subst P from.1 (refuted_row i e got from.0))
 
+  rows_reached : All (λ (row : KeptRow S M). IsReachable next start row.state) rows
+  unfolding rows
+  rows_reached = filter_map_all (row_within r) (λ (row : KeptRow S M). IsReachable next start row.state) xs
+      (λ i e row got is. let P : S → Type 0 = IsReachable next start in subst P (ap (λ (row : KeptRow S M). row.state) (row_from r e row is).1) (reachable i e got))
+
   beyond_of : HasNumber xs → IsBeyond {M = M} next shows start r limit
   beyond_of h =
       let e : Entry S M = h.entry in
@@ -156,7 +167,7 @@ module _ {S M : Type 0} (next : Successors S) (is_done : S → Bool) (level : S 
         refuted = let Q : List (KeptRow S M) → Type 0 = λ rs. AreRefuted next is_done shows rs in subst Q (sym is) all_refuted;
         start_row = let Q : List (KeptRow S M) → Type 0 = λ rs. HasRow rs start r in subst Q (sym is) start_row;
         counted = let Q : List (KeptRow S M) → Type 0 = λ rs. AreCounted next level start r limit rs in
-            subst Q (sym is) (counted_of rows (unmarked_within r xs (λ i e got none. (near_kept i e got none).near)));
+            subst Q (sym is) (counted_of rows rows_reached (unmarked_within r xs (λ i e got none. (near_kept i e got none).near)));
         reason = beyond_of number;
       }
 
@@ -192,6 +203,10 @@ module _ {S M : Type 0} (next : Successors S) (is_done : S → Bool) (level : S 
         why i e got None none = all_from_contains (λ (step : ActionId × S). HasNeverRow nevers step.1) (next e.0) (λ step has. has_never step.1 (e.1.way.depth + 1) (held_after i e step got none has))
         why i e got (Some m) mark = shown_never i e m got mark
 
+    nevers_reached : All (λ (row : KeptRow S M). IsReachable next start row.state) nevers
+    unfolding nevers
+    nevers_reached = map_all row_never (λ (row : KeptRow S M). IsReachable next start row.state) xs reachable
+
     pub never_of : (made : Vec (KeptRow S M) Global) → made.items ≡ map row_never xs → IsAnswer next is_done level shows start r limit (answer.Never made)
     unfolding nevers
     never_of made is =
@@ -202,6 +217,6 @@ module _ {S M : Type 0} (next : Successors S) (is_done : S → Bool) (level : S 
           right = λ n. refutes_ever next is_done level shows law nevers never_refuted start n start_row;
           refuted = let Q : List (KeptRow S M) → Type 0 = λ rs. AreRefuted next is_done shows rs in subst Q (sym is) never_refuted;
           start_row = let Q : List (KeptRow S M) → Type 0 = λ rs. HasNeverRow rs start in subst Q (sym is) start_row;
-          counted = let Q : List (KeptRow S M) → Type 0 = λ rs. AreCounted next level start r limit rs in subst Q (sym is) (counted_of nevers (unmarked_never xs));
+          counted = let Q : List (KeptRow S M) → Type 0 = λ rs. AreCounted next level start r limit rs in subst Q (sym is) (counted_of nevers nevers_reached (unmarked_never xs));
           reason = tt;
         }

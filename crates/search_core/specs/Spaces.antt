@@ -33,6 +33,11 @@ pub record IsPath {S : Type 0} (next : Successors S) (s : S) (path : List Action
   pub carries : actions_of walk ≡ path
   pub ends : end_of s walk ≡ t
 
+-- some path leads from s to t
+pub record IsReachable {S : Type 0} (next : Successors S) (s t : S) : Type 0 where
+  pub path : List ActionId
+  pub leads : IsPath next s path t
+
 -- a done state lies within n steps of s
 pub record IsDoneWithin {S : Type 0} (next : Successors S) (is_done : S → Bool) (s : S) (n : ℕ) : Type 0 where
   pub path : List ActionId

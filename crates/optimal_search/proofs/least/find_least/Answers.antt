@@ -4,10 +4,10 @@ use Rattle.optimal_search.proofs.least.find_least.Goals as goal
 
 pub loop-r-init : goal.loop-r-init
 loop-r-init g c = record {
-  known = known_first _ _ _ _ _ _ c.new-known.result c.new-known.ensures.low c.new-known.ensures.path c.new-known.ensures.rows;
+  known = known_first _ _ _ _ _ _ _ c.new-known.result c.new-known.ensures.low c.new-known.ensures.path c.new-known.ensures.rows;
   close = omega (arith, c.new-known.ensures.ahead);
 }
 
 pub returns-clause-least : goal.returns-clause-least
 returns-clause-least g c =
-    least_path _ _ _ _ _ _ c.loop-r.known c.unwrap-path.result c.loop-r.invariant.known c.unwrap-path.ensures c.in_default.ensures.settled
+    least_path _ _ _ _ _ _ _ c.loop-r.known c.unwrap-path.result c.loop-r.invariant.known c.unwrap-path.ensures c.in_default.ensures.settled

@@ -1,5 +1,5 @@
 use Rattle.std.proofs.Common.{Err, refl, ap, arith}
-use Rattle.optimal_search.proofs.LeastLemmas.{known_found, known_raised, known_alike, below_limit}
+use Rattle.optimal_search.proofs.LeastLemmas.{known_found, known_raised, known_alike, below_last}
 use Rattle.optimal_search.proofs.least.pass.Goals as goal
 
 pub returns-then-known-r-clause-many : goal.returns-then-known-r-clause-many
@@ -8,14 +8,14 @@ returns-then-known-r-clause-many g c _ =
 
 pub returns-in-Ok-Yes-clause-known : goal.returns-in-Ok-Yes-clause-known
 returns-in-Ok-Yes-clause-known g c =
-    known_found _ _ _ _ _ _ c.args.known.now _ c.args.r c.in-Ok-Yes.path c.requires.known (rw c.in-Ok-Yes.field-0-is at c.in-Ok-Yes.ensures.right) refl refl refl
+    known_found _ _ _ _ _ _ _ c.args.known.now _ c.args.r c.in-Ok-Yes.path c.requires.known (rw c.in-Ok-Yes.field-0-is at c.in-Ok-Yes.ensures.right) refl refl refl
 
 pub returns-in-Ok-No-clause-known : goal.returns-in-Ok-No-clause-known
 returns-in-Ok-No-clause-known g c =
     let beyond = rw c.in-Ok-No.field-0-is at c.in-Ok-No.ensures.reason in
-    known_raised _ _ _ _ _ _ c.args.known.now c.raise.new.self c.args.r c.requires.known
+    known_raised _ _ _ _ _ _ _ c.args.known.now c.raise.new.self c.args.r c.requires.known
     (rw c.in-Ok-No.field-0-is at c.in-Ok-No.ensures.right)
-    (below_limit _ (g.S.Space.is_done c.args.space.now) (g.S.Space.level c.args.space.now) _ _ _ _ c.requires.zero beyond)
+    (below_last _ (g.S.Space.is_done c.args.space.now) (g.S.Space.level c.args.space.now) (g.F.Floor.shows c.args.floor.now c.args.space.now) _ _ _ _ c.requires.shown beyond)
     (rw c.raise.ensures.rows (rw c.in-Ok-No.field-0-is at c.in-Ok-No.ensures.refuted))
     (rw c.raise.ensures.rows (rw c.in-Ok-No.field-0-is at c.in-Ok-No.ensures.start))
     (rw c.raise.ensures.rows (rw c.in-Ok-No.field-0-is at c.in-Ok-No.ensures.counted))
@@ -23,4 +23,4 @@ returns-in-Ok-No-clause-known g c =
 
 pub returns-else-known-r-clause-known : goal.returns-else-known-r-clause-known
 returns-else-known-r-clause-known g c =
-    known_alike _ _ _ _ _ _ _ _ c.requires.known c.look_less.ensures.low c.look_less.ensures.path (ap (λ rows. rows.items) c.look_less.ensures.rows)
+    known_alike _ _ _ _ _ _ _ _ _ c.requires.known c.look_less.ensures.low c.look_less.ensures.path (ap (λ rows. rows.items) c.look_less.ensures.rows)

@@ -12,11 +12,11 @@ returns-clause-over g c t all_old all_rows =
     subst (All (λ s. IsOver t (members s))) (sym c.raise.ensures.states) (c.numbers_of.ensures.over t all_old all_rows)
 
 pub returns-clause-kept : goal.returns-clause-kept
-returns-clause-kept g c t =
+returns-clause-kept g c t goal_id removed =
     let rows = c.args.rows.now in
     let states = c.numbers_of.new.self.states in
     let bounds = c.raise.new.self.bounds.items in
-    let kept : KeepsRows t (rows_kept t states c.numbers_of.new.self.bounds.items) (rows_kept t states bounds) rows = raised_keeps t states c.numbers_of.new.self.bounds.items bounds rows c.raise.ensures.raised in
-    let from_old : KeepsRows t (rows_kept t c.args.self.now.states c.args.self.now.bounds.items) (rows_kept t states bounds) rows =
-    subst (λ old. KeepsRows t old (rows_kept t states bounds) rows) (c.numbers_of.ensures.same t) kept in
-    subst (λ new. KeepsRows t (rows_kept t c.args.self.now.states c.args.self.now.bounds.items) (rows_kept t new bounds) rows) (sym c.raise.ensures.states) from_old
+    let kept : KeepsRows t goal_id removed (rows_kept t goal_id removed states c.numbers_of.new.self.bounds.items) (rows_kept t goal_id removed states bounds) rows = raised_keeps t goal_id removed states c.numbers_of.new.self.bounds.items bounds rows c.raise.ensures.raised in
+    let from_old : KeepsRows t goal_id removed (rows_kept t goal_id removed c.args.self.now.states c.args.self.now.bounds.items) (rows_kept t goal_id removed states bounds) rows =
+    subst (λ old. KeepsRows t goal_id removed old (rows_kept t goal_id removed states bounds) rows) (c.numbers_of.ensures.same t goal_id removed) kept in
+    subst (λ new. KeepsRows t goal_id removed (rows_kept t goal_id removed c.args.self.now.states c.args.self.now.bounds.items) (rows_kept t goal_id removed new bounds) rows) (sym c.raise.ensures.states) from_old

@@ -1,16 +1,14 @@
-use Rattle.std.proofs.Common.{◌≡◌, take, get_or, sym, ◌∙◌, subst}
-use Rattle.std.specs.Prelude.{All}
+use Rattle.std.proofs.Common.{sym, ◌∙◌, subst}
 use Rattle.std.proofs.lemmas.List.Elements.{All-take}
 use Rattle.grd_base.specs.Bits.{members}
 use Rattle.strips_model.specs.Plans.{IsOver}
-use Rattle.optimal_search.proofs.KeptLemmas.{AreTaken}
 use Rattle.grd_base.proofs.ListLemmas.{take_next}
 use Rattle.optimal_search.proofs.TakenLemmas.{same_rows, still_over, taken_more}
 use Rattle.optimal_search.proofs.kept.Kept.numbers_of.Goals as goal
 
 pub returns-in_err-number_of-clause-same : goal.returns-in_err-number_of-clause-same
-returns-in_err-number_of-clause-same g c t =
-    same_rows _ _ _ _ c.row-item.result.state t c.loop-row.invariant.matched c.number_of.ensures.numbered ∙ c.loop-row.invariant.same t
+returns-in_err-number_of-clause-same g c t goal_id removed =
+    same_rows _ _ _ _ c.row-item.result.state t goal_id removed c.loop-row.invariant.matched c.number_of.ensures.numbered ∙ c.loop-row.invariant.same t goal_id removed
 
 pub returns-in_err-number_of-clause-over : goal.returns-in_err-number_of-clause-over
 returns-in_err-number_of-clause-over g c t all_old all_rows =
@@ -19,8 +17,8 @@ returns-in_err-number_of-clause-over g c t all_old all_rows =
     (subst (λ r. IsOver t (members r.state)) (sym c.row-item.is) (all_rows c.loop-row.row-index c.row-item.result c.loop-row-test.true))
 
 pub returns-in_err-push-clause-same : goal.returns-in_err-push-clause-same
-returns-in_err-push-clause-same g c t =
-    same_rows _ _ _ _ c.row-item.result.state t c.loop-row.invariant.matched c.number_of.ensures.numbered ∙ c.loop-row.invariant.same t
+returns-in_err-push-clause-same g c t goal_id removed =
+    same_rows _ _ _ _ c.row-item.result.state t goal_id removed c.loop-row.invariant.matched c.number_of.ensures.numbered ∙ c.loop-row.invariant.same t goal_id removed
 
 pub returns-in_err-push-clause-over : goal.returns-in_err-push-clause-over
 returns-in_err-push-clause-over g c t all_old all_rows =

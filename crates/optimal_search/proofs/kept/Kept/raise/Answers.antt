@@ -1,8 +1,7 @@
-use Rattle.std.proofs.Common.{rules, ◌<◌, ◌≡◌, arith, length, get_or, refl, sym, ◌∙◌, ap, subst, Some}
+use Rattle.std.proofs.Common.{rules, ◌<◌, ◌≡◌, arith, length, get_or, refl, sym, ◌∙◌, subst, Some}
 use Rattle.std.specs.Prelude.{slice_get}
 use Rattle.std.proofs.lemmas.Option.{slice_get-get_or, slice_get_read, slice_get_within}
-use Rattle.grd_base.specs.declared.bits.Bits.{Bits}
-use Rattle.search_core.specs.declared.rows.KeptRow.{KeptRow}
+use Rattle.optimal_search.specs.declared.kept.ProvedBound.{ProvedBound}
 use Rattle.optimal_search.specs.Kept.{IsRaised, IsRaisedAt}
 use Rattle.optimal_search.proofs.KeptLemmas.{raised_more}
 use Rattle.grd_base.proofs.ListLemmas.{take_next}
@@ -33,5 +32,5 @@ loop-i-preserved g c =
       states = c.raise_to.ensures.states ∙ c.loop-i.invariant.states;
       raised = subst (IsRaised states c.args.self.now.bounds.items c.raise_to.new.self.bounds.items) (sym (take_next rows i row c.loop-i-test.true c.index-rows-i.is))
           (raised_more states c.args.self.now.bounds.items c.loop-i.self.bounds.items c.raise_to.new.self.bounds.items _ row (get_or numbers i 0) at c.loop-i.invariant.raised
-          (subst (λ (r : KeptRow (Bits g.row.W) (Unit {0})). IsRaisedAt c.loop-i.self.bounds.items c.raise_to.new.self.bounds.items (get_or numbers i 0) r.bound) (sym c.index-rows-i.is) c.raise_to.ensures.raised));
+          (subst (λ (p : ProvedBound). IsRaisedAt c.loop-i.self.bounds.items c.raise_to.new.self.bounds.items (get_or numbers i 0) p) c.proved_by.ensures c.raise_to.ensures.raised));
     }

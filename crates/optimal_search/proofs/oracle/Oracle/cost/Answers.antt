@@ -9,7 +9,7 @@ use Rattle.optimal_search.proofs.oracle.Oracle.cost.Goals as goal
 
 pub returns-clause-start : goal.returns-clause-start
 returns-clause-start g c =
-    let task = c.args.self.now.task in
+    let o = c.args.self.now in
     let rows = c.in_ok-cost.rows.items in
-    let Held : List (KeptRow (Bits g.row.W) (Unit {0})) → Type 0 = λ xs. HasAllOf (map (row_of task) xs) c.keep.new.self.rows in
-    start_grows task (map (row_of task) rows) c.keep.new.self.rows c.in_ok-cost.cost (subst Held c.as_slice.ensures.value c.in_ok-keep.ensures.held) c.in_ok-cost.ensures.start
+    let Held : List (KeptRow (Bits g.row.W) (Unit {0})) → Type 0 = λ xs. HasAllOf (map (row_of o.task o.goal o.removed) xs) c.keep.new.self.rows in
+    start_grows o.task (map (row_of o.task o.goal o.removed) rows) c.keep.new.self.rows c.in_ok-cost.cost (subst Held c.as_slice.ensures.value c.in_ok-keep.ensures.held) c.in_ok-cost.ensures.start

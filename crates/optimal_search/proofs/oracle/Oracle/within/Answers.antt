@@ -25,8 +25,8 @@ returns-clause-row g c =
     let known = c.is_known.new.self in
     let s = members c.args.s.now in
     let rows = c.in_ok-path.rows.items in
-    let Held : List (KeptRow (Bits g.row.W) (Unit {0})) → Type 0 = λ xs. HasAllOf (map (row_of known.task) xs) c.keep.new.self.rows in
-    none_weaker c.in_ok-path.path (HasRow (map (row_of known.task) rows) s (Steps c.args.r)) (HasRow c.keep.new.self.rows s (Steps c.args.r))
+    let Held : List (KeptRow (Bits g.row.W) (Unit {0})) → Type 0 = λ xs. HasAllOf (map (row_of known.task known.goal known.removed) xs) c.keep.new.self.rows in
+    none_weaker c.in_ok-path.path (HasRow (map (row_of known.task known.goal known.removed) rows) s (Steps c.args.r)) (HasRow c.keep.new.self.rows s (Steps c.args.r))
     (subst Held c.as_slice.ensures.value c.in_ok-keep.ensures.held s (Steps c.args.r)) c.in_ok-path.ensures.row
 
 pub returns-clause-none : goal.returns-clause-none
