@@ -1,0 +1,2 @@
+mod CompileLemmas
+pub mod ObservedLaws
