@@ -1,5 +1,5 @@
 -- What was read of a file, as a fact on what its shelf tells.
-use Rattle.std.proofs.Common.{◌≡◌, ℕ, ◌^◌, ◌≤◌, List, ◌++◌, length, Option, Some, None, sym, subst, refl, ◌⊎◌, inl, inr}
+use Rattle.std.proofs.Common.{◌≡◌, ℕ, Bool, ◌^◌, ◌≤◌, List, ◌++◌, length, Option, Some, None, sym, subst, refl, ◌⊎◌, inl, inr}
 use Rattle.std.specs.Prelude.{IsSomeAnd, IfSome, IfOk, IsOk, IsOkAnd, Result, Ok, Err}
 use Rattle.grd_io.specs.Bytes.{Told, IsWholeFile}
 use Rattle.pddl_reader.specs.Values.{PlainDomain, PlainProblem}
@@ -22,10 +22,10 @@ use Rattle.grd_base.specs.declared.roles.FileRole.{FileRole}
 use Rattle.pddl_reader.specs.declared.faults.PddlFault.{PddlFault}
 use Rattle.pddl_reader.specs.declared.faults.PddlFault.TheVariants.{Lex, Tree, Shape as PddlShape, Unsupported, DoubledSection, OutOfMemory as PddlMemory}
 use Rattle.grd_program.specs.declared.status.Status.{Status}
-use Rattle.grd_program.specs.declared.status.Status.TheVariants.{Refused, OutOfMemory}
-use Rattle.grd_program.specs.declared.status.Refusal.TheVariants.{Pddl, Goals as OfGoals}
+use Rattle.grd_program.specs.declared.status.Status.TheVariants.{Done, Refused, Usage as BadUsage, Limit, ReadFailed, WriteFailed, OutOfMemory}
+use Rattle.grd_program.specs.declared.status.Refusal.TheVariants.{TooLong, Pddl, Typing, Goals as OfGoals, Count}
 use Rattle.grd_program.specs.Causes.{HasText, FailsTyping, SpellsOnlyGoals}
-use Rattle.grd_program.specs.Runs.{SpellsOnly, IsWorldReport, IsShownText, IsReportText, IsShowText, TakesTexts, TakesFiles, ReadsOnly, HasOnlyUsageFault}
+use Rattle.grd_program.specs.Runs.{SpellsOnly, IsWorldReport, IsShownText, IsReportText, IsShowText, TakesTexts, TakesFiles, HasReadingCause, HasFilesCause, ReadsOnly, HasOnlyUsageFault}
 
 -- the text that was read has the property
 pub has : (told : Told) (bytes : List ℕ) (P : List ℕ → Type 0) → IsWholeFile told bytes → length bytes ≤ 2 ^ 20 → P bytes → HasText told P
@@ -71,6 +71,21 @@ report_text_is question told job typed goals text taken report =
       };
       report = report;
     }
+
+-- where the files were not taken, that is why there is no report
+pub reading_files : (question : Question) (told : List ℕ → Told) (before now : List ℕ → Bool → ℕ) (job : PlainJob) (s : Status)
+    → HasReadingCause told before now job s → HasFilesCause question told before now job s
+reading_files question told before now job Done h = h
+reading_files question told before now job (BadUsage fault) h = h
+reading_files question told before now job (Refused (TooLong role limit)) h = h
+reading_files question told before now job (Refused (Pddl role fault)) h = h
+reading_files question told before now job (Refused (Typing fault)) h = h
+reading_files question told before now job (Refused (OfGoals fault)) h = h
+reading_files question told before now job (Refused (Count fault)) h = absurd h
+reading_files question told before now job (Limit fault) h = absurd h
+reading_files question told before now job (ReadFailed role) h = h
+reading_files question told before now job (WriteFailed target) h = h
+reading_files question told before now job OutOfMemory h = h
 
 -- the canonical texts of files that are taken
 pub show_text_is : (told : List ℕ → Told) (job : PlainJob) (d : PlainDomain) (p : PlainProblem) (text : List ℕ)

@@ -203,13 +203,18 @@ HasTypedCause told before now job (Refused (Typing fault)) =
     IsQuiet before now × (d : PlainDomain) × (p : PlainProblem) × TakesTexts told job d p × HasTypingCause d p (Refused (Typing fault))
 HasTypedCause told before now job status = HasTextsCause told before now job status
 
--- why there is no report over the three files; each answer comes only where the files before it were taken
-abbrev pub HasFilesCause : Question → (List ℕ → Told) → (List ℕ → Bool → ℕ) → (List ℕ → Bool → ℕ) → PlainJob → Status → Type 0
-HasFilesCause question told before now job (Refused (TooLong Goals limit)) =
+-- why the three files were not taken; each cause comes only where the files before it were taken
+abbrev pub HasReadingCause : (List ℕ → Told) → (List ℕ → Bool → ℕ) → (List ℕ → Bool → ℕ) → PlainJob → Status → Type 0
+HasReadingCause told before now job (Refused (TooLong Goals limit)) =
     (limit ≡ 2 ^ 20) × IsQuiet before now × (typed : PlainTyped) × TakesTyped told job typed × IsLongerFile (told job.goals) limit
-HasFilesCause question told before now job (Refused (OfGoals fault)) =
+HasReadingCause told before now job (Refused (OfGoals fault)) =
     (fault ≢ GoalsOutOfMemory) × IsQuiet before now
     × (typed : PlainTyped) × TakesTyped told job typed × HasText (told job.goals) (λ text. HasOnlyFault typed text fault)
+HasReadingCause told before now job (ReadFailed Goals) = ((typed : PlainTyped) × TakesTyped told job typed) × OnlyRose before now job.goals
+HasReadingCause told before now job status = HasTypedCause told before now job status
+
+-- why there is no report over the three files: they were not taken, or there is no answer over their world
+abbrev pub HasFilesCause : Question → (List ℕ → Told) → (List ℕ → Bool → ℕ) → (List ℕ → Bool → ℕ) → PlainJob → Status → Type 0
 HasFilesCause question told before now job (Refused (Count fault)) =
     IsQuiet before now
     × (typed : PlainTyped) × (goals : List (List PlainGroundAtom)) × TakesFiles told job typed goals
@@ -218,8 +223,7 @@ HasFilesCause question told before now job (Limit fault) =
     IsQuiet before now
     × (typed : PlainTyped) × (goals : List (List PlainGroundAtom)) × TakesFiles told job typed goals
     × HasAnswerCause question job.limits.states typed goals (Limit fault)
-HasFilesCause question told before now job (ReadFailed Goals) = ((typed : PlainTyped) × TakesTyped told job typed) × OnlyRose before now job.goals
-HasFilesCause question told before now job status = HasTypedCause told before now job status
+HasFilesCause question told before now job status = HasReadingCause told before now job status
 
 -- why the command has no text for the job
 abbrev pub HasCommandCause : Command → (List ℕ → Told) → (List ℕ → Bool → ℕ) → (List ℕ → Bool → ℕ) → PlainJob → Status → Type 0

@@ -5,7 +5,7 @@ ghost use Rattle.type_check.specs.Typing.{IsTypedTask};
 ghost use Rattle.ground_all.specs.Grounding.{instances, ground_task};
 ghost use Rattle.grd_program.specs.Causes.{IsQuiet, HasFew, HasCountCause};
 ghost use Rattle.grd_program.specs.Reports.{action_names, IsWcdReport, IsReportOn};
-ghost use Rattle.grd_program.specs.Runs.{TakesFiles, IsReportText, IsTextOf, IsAnswerText, ReadsOnly, HasWordsCause, HasFilesCause, HasCommandCause, HasInputCause, HasSearchCause, HasAnswerCause, HasTakenFiles, HasTaken, HasPassed};
+ghost use Rattle.grd_program.specs.Runs.{TakesFiles, IsReportText, IsTextOf, IsAnswerText, ReadsOnly, HasWordsCause, HasReadingCause, HasFilesCause, HasCommandCause, HasInputCause, HasSearchCause, HasAnswerCause, HasTakenFiles, HasTaken, HasPassed};
 
 use crate::command::Command;
 use crate::files::goals_of;
@@ -48,8 +48,8 @@ fn read_inputs<F: Shelf>(alloc: Global, shelf: &mut F, job: &Job) -> Result<Inpu
         (λ i. TakesFiles (F.told shelf.old) job.now i.typed i.goals.items) }
     ensures task { IfOk result (λ i. IsTypedTask i.typed) }
     ensures few_goals { IfOk result (λ i. length i.goals.items ≤ 32) }
-    ensures cause { IfErr result (λ status. (question : Question)
-        → HasFilesCause question (F.told shelf.old) (F.faults shelf.old) (F.faults shelf.new) job.now status) }
+    ensures cause { IfErr result
+        (HasReadingCause (F.told shelf.old) (F.faults shelf.old) (F.faults shelf.new) job.now) }
     ensures files_stay { (x : List ℕ) → F.told shelf.new x ≡ F.told shelf.old x }
     ensures later { (x : List ℕ) (w : Bool) → F.faults shelf.old x w ≤ F.faults shelf.new x w }
     ensures quiet { OnOk result (IsQuiet (F.faults shelf.old) (F.faults shelf.new)) }
@@ -160,6 +160,7 @@ fn report_on(
 }
 
 /// The report that answers the question about the files of a job.
+#[tactic(auto, using(crate::proofs::FileLemmas::reading_files))]
 fn report_text<F: Shelf>(
     alloc: Global,
     shelf: &mut F,
