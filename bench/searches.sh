@@ -1,9 +1,10 @@
 #!/usr/bin/env bash
 # Times `cost` and `wcd` on made tasks of growing size, whose numbers of states are known:
 # a chain of places, switches that are turned on in any order, and a grid of cells.
-# `cost` is asked for the goal that is as far away as any state is. All states are near this goal; of the
-# chain and the grid the last pass expands none, since the level of the start is the cost, and the pass before
-# it goes straight to the goal. `wcd` is asked for this goal and one more.
+# `cost` is asked for the goal that is as far away as any state is. All states are near this goal, and the
+# pass that finds it expands nearly all of them. That no plan is shorter takes as many again for the switches,
+# and none for the chain and the grid, whose start has the cost as its level. `wcd` is asked for this goal
+# and one more.
 # Each line: the task, its states and actions, then for each command the seconds, and the
 # microseconds for each state, and for `cost` the most memory that it had, in MiB. That number is never
 # below what the measuring Python had itself, some 15 MiB, so it tells of the larger tasks alone.
