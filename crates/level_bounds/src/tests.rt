@@ -1,4 +1,4 @@
-ghost use Rattle.std.specs.Prelude.{◌≡◌, IfOk, length, [], ◌∷◌, false};
+ghost use Rattle.std.specs.Prelude.{◌≡◌, ◌<◌, IfOk, length, [], ◌∷◌, false};
 
 use super::*;
 use grd_base::{ActionId, ActionSet, AtomId, Bound, GoalId};
@@ -35,11 +35,24 @@ fn only(alloc: Global, p: u32) -> Result<Condition, Fail>
     })
 }
 
+fn both(alloc: Global, p: u32, q: u32) -> Result<Condition, Fail>
+    requires { p < q }
+    ensures { IfOk result (λ g. g ≡ (record {
+      atoms = (record { 0 = p }) ∷ (record { 0 = q }) ∷ [];
+      blocked = false;
+    })) }
+{
+    Ok(Condition {
+        atoms: vec![in alloc; AtomId(p), AtomId(q)]?,
+        blocked: false,
+    })
+}
+
 // Fork: from atom 0 by (a) and (b) to 2, and from there by (l) to 3 or by (r) to 4. The goals are the
-// left end, the right end and the start.
+// left end, the right end, the start, and both ends at once.
 fn fork(alloc: Global) -> Result<Task, Fail>
     ensures atoms { IfOk result (λ t. t.atoms ≡ 5) }
-    ensures goals { IfOk result (λ t. length t.goals ≡ 3) }
+    ensures goals { IfOk result (λ t. length t.goals ≡ 4) }
 {
     let a = from_to(alloc, 0, 1)?;
     let b = from_to(alloc, 1, 2)?;
@@ -48,11 +61,12 @@ fn fork(alloc: Global) -> Result<Task, Fail>
     let left = only(alloc, 3)?;
     let right = only(alloc, 4)?;
     let back = only(alloc, 0)?;
+    let ends = both(alloc, 3, 4)?;
     Ok(Task {
         atoms: 5,
         init: vec![in alloc; AtomId(0)]?,
         actions: vec![in alloc; a, b, l, r]?,
-        goals: vec![in alloc; left, right, back]?,
+        goals: vec![in alloc; left, right, back, ends]?,
     })
 }
 
@@ -72,6 +86,9 @@ fn levels_of_fork(rt: HostRuntime) -> Result<(), Fail> {
     );
     let back = LevelFloor::new(alloc, &task, GoalId(2), &none)?;
     assert_eq!(rt; back.bound_at(alloc, &s)?, Bound::Steps(0));
+    // Both ends are reached in one round, whatever plans do.
+    let ends = LevelFloor::new(alloc, &task, GoalId(3), &none)?;
+    assert_eq!(rt; ends.bound_at(alloc, &s)?, Bound::Steps(3));
     let family = left.family_at(alloc, &s)?;
     assert_eq!(rt; family.sets.len(), 3);
     assert!(rt; family.sets[0].as_slice() == [AtomId(0)].as_slice());

@@ -27,7 +27,7 @@ use Rattle.level_bounds.specs.Floors.{PlainFloor, level_of, ShowsLevel}
 use Rattle.level_bounds.proofs.LevelLaws.{goal_more, rounds_shift}
 use Rattle.level_bounds.proofs.FamilyLaws.{level_at_is, level_at_of, level_at_low, step_within}
 use Rattle.optimal_search.specs.Space.{successors_of, holds_in, level_in}
-use Rattle.optimal_search.specs.Floors.{IsLevelBound, IsLevelProof, CutsShow}
+use Rattle.optimal_search.specs.Floors.{IsLevelBound, IsLevelProof, AreEnough}
 use Rattle.optimal_search.proofs.StepLaws.{step_over, packed_whole, packed_members, packed_within, successor_from, successor_has}
 
 -- a state of the task, as a program holds it
@@ -209,10 +209,10 @@ module _ {W : ℕ} (t : PlainTask) (g : GoalId) (removed : List ActionId) (s : B
   -- a family that shows the level of a state proves each bound from it
   level_proof : IsTask t → (sets : List (List AtomId)) (bound : Bound) → IsFamily t g removed (members s) sets → ShowsLevel t g removed (members s) sets → IsLevelBound t g removed s bound
       → IsLevelProof t g removed s sets bound
-  level_proof is sets bound family shows shown = record { family = family; suffice = by bound (bound_level is bound shown) }
+  level_proof is sets bound family shows shown = record { family = family; enough = by bound (bound_level is bound shown) }
     where
-      by : (b : Bound) → IsLevel t g removed (members s) (level_of b) → CutsShow t removed sets b
-      by (Steps n) level = λ r low. let long : length sets ≡ n = (shows.some n level).0 in inr (omega (arith, low, long))
+      by : (b : Bound) → IsLevel t g removed (members s) (level_of b) → AreEnough t removed sets b
+      by (Steps n) level = let long : length sets ≡ n = (shows.some n level).0 in omega (arith, long)
       by Never level =
           let both = shows.none level in
           let none : List AtomId = [] in

@@ -1,6 +1,6 @@
 -- What makes the space a space and its floor a floor: bounds from levels, and two laws with their proofs.
 use Rattle.std.proofs.Common.{◌≡◌, ℕ, refl, sym, ap, subst, arith}
-use Rattle.std.specs.Prelude.{◌<◌, List, Option}
+use Rattle.std.specs.Prelude.{◌≤◌, List, length, Option}
 use Rattle.std.specs.Ordering.{nat_cmp}
 use Rattle.std.specs.Cmp.Lexicographic.{slice_cmp}
 use Rattle.std.specs.declared.cmp.Ordering.TheVariants.{Equal}
@@ -15,7 +15,7 @@ use Rattle.grd_base.specs.Bits.{members}
 use Rattle.strips_model.specs.Values.{PlainTask}
 use Rattle.strips_model.specs.Cuts.{IsFamily}
 use Rattle.search_core.specs.Spaces.{IsAdmissible, IsAtLeastLevel, IsAtMostSteps}
-use Rattle.cost_certificate.specs.Tables.{HasEmptyCut, CutsSuffice}
+use Rattle.cost_certificate.specs.Tables.{HasEmptyCut}
 use Rattle.level_bounds.specs.Floors.{level_of}
 use Rattle.optimal_search.specs.Space.{successors_of, holds_in, level_in}
 
@@ -32,15 +32,15 @@ pub record IsLevelBound {W : ℕ} (t : PlainTask) (g : GoalId) (removed : List A
 abbrev pub shows_level : {W : ℕ} {M : Type 0} → PlainTask → GoalId → List ActionId → Bits W → M → Bound → Type 0
 shows_level t g removed s mark bound = IsLevelBound t g removed s bound
 
--- the cuts suffice for every bound below this one; for `Never`, for any
-abbrev pub CutsShow : PlainTask → List ActionId → List (List AtomId) → Bound → Type 0
-CutsShow t removed sets (Steps n) = (r : ℕ) → r < n → CutsSuffice t removed sets (Steps r)
-CutsShow t removed sets Never = HasEmptyCut t removed sets
+-- there are at least as many sets as the bound has steps; for `Never` one of them has an empty cut
+abbrev pub AreEnough : PlainTask → List ActionId → List (List AtomId) → Bound → Type 0
+AreEnough t removed sets (Steps n) = n ≤ length sets
+AreEnough t removed sets Never = HasEmptyCut t removed sets
 
--- the sets are a family for the state, and their cuts show the bound
+-- the sets are a family for the state, and enough for the bound
 pub record IsLevelProof {W : ℕ} (t : PlainTask) (g : GoalId) (removed : List ActionId) (s : Bits W) (sets : List (List AtomId)) (bound : Bound) : Type 0 where
   pub family : IsFamily t g removed (members s) sets
-  pub suffice : CutsShow t removed sets bound
+  pub enough : AreEnough t removed sets bound
 
 -- such a bound lies between the level and the least number of steps
 pub level_admissible : {W : ℕ} (t : PlainTask) (g : GoalId) (removed : List ActionId) (s : Bits W) (bound : Bound) → IsLevelBound t g removed s bound

@@ -1,4 +1,4 @@
--- The space of a task without removed actions: its states are bit sets.
+-- The space of a task, a goal and removed actions: its states are bit sets.
 use Rattle.std.specs.Prelude.{ℕ, Bool, List, Option}
 use Rattle.std.specs.Option.{option_map}
 use Rattle.std.specs.List.{filter_map}

@@ -1,12 +1,13 @@
 ghost use Rattle.std.specs.Prelude.{◌≡◌, ◌<◌, IfOk, length, [], ◌∷◌, false};
 
 use super::*;
+use crate::space::{SpaceFloor, TaskSpace};
 use cost_certificate::{Why, valid_table};
-use grd_base::{ActionId, ActionSet, AtomId, Bits, GoalId, Limits};
-use search_core::SearchFault;
+use grd_base::{ActionId, ActionSet, AtomId, Bits, Bound, GoalId, Limits};
+use search_core::{Floor, SearchFault};
 use std::alloc::Global;
 use std::test::Fail;
-use strips_model::{Action, Condition, Task};
+use strips_model::{Action, Condition, Task, start};
 
 // The action from one place to another: it needs and deletes the one atom, and adds the other.
 fn from_to(alloc: Global, p: u32, q: u32) -> Result<Action, Fail>
@@ -230,5 +231,19 @@ fn oracle_keeps_a_valid_table_behind_a_limit(rt: HostRuntime) -> Result<(), Fail
         valid_table(rt.alloc(), &task, GoalId(2), &none, &table)?,
         None
     );
+    Ok(())
+}
+
+// The sets that prove the level of the first goal at the start are those before its three rounds.
+#[test]
+fn floor_proves_its_bound(rt: HostRuntime) -> Result<(), Fail> {
+    let task = fork(rt.alloc(), 3, 4)?;
+    let none = ActionSet::new(rt.alloc());
+    let space = TaskSpace::<1>::new(rt.alloc(), &task, GoalId(0), &none)?;
+    let s = start(&task);
+    let (bound, mark) = SpaceFloor.at_least(rt.alloc(), &space, &s)?;
+    assert_eq!(rt; bound, Bound::Steps(3));
+    let family = SpaceFloor.why(rt.alloc(), &space, &s, &mark)?;
+    assert_eq!(rt; family.sets.len(), 3);
     Ok(())
 }
