@@ -1,0 +1,162 @@
+-- What an oracle of the observed task, asked from its start within the cost, says of the verdict.
+use mathlib.Core.Path.{ap₂}
+use Rattle.std.proofs.Common.{◌≡◌, ◌↔◌, ◌⊎◌, inl, inr, ℕ, zero, suc, ◌≤◌, ◌<◌, Vec, Global, Result, Ok, Err, List, [], ◌∷◌, ◌++◌, length, map, get_or, eqb, refl, sym, ap, subst, ◌∙◌, arith, Option, Some, None}
+use Rattle.std.specs.Prelude.{All, IfOk, IsErrAnd, slice_get}
+use Rattle.std.specs.Option.{option_map_or}
+use Rattle.std.proofs.lemmas.Bool.{ne_eqb}
+use Rattle.std.proofs.lemmas.List.{length-map}
+use Rattle.std.proofs.lemmas.List.Elements.{All-nil, All-weaker}
+use Rattle.std.proofs.lemmas.List.Folds.{list_any_none}
+use Rattle.std.proofs.lemmas.Option.{slice_get_within, slice_get-get_or}
+use Rattle.grd_base.specs.declared.ids.AtomId.{AtomId}
+use Rattle.grd_base.specs.declared.ids.ActionId.{ActionId}
+use Rattle.grd_base.specs.declared.ids.GoalId.{GoalId}
+use Rattle.grd_base.specs.declared.limits.Bound.TheVariants.{Steps}
+use Rattle.grd_base.specs.Counts.{MoreThan}
+use Rattle.strips_model.specs.Values.{PlainTask, IsTask}
+use Rattle.strips_model.specs.Plans.{State, start_of, Reaches, IsPlan, IsCost, IsOptimal, IsOver, Embeds}
+use Rattle.strips_model.specs.Reached.{IsNearWithin}
+use Rattle.cost_certificate.specs.declared.found.Verdict.{Verdict}
+use Rattle.cost_certificate.specs.declared.found.Verdict.TheVariants.{No}
+use Rattle.cost_certificate.specs.Found.{PlainCost}
+use Rattle.cost_certificate.specs.Rows.{PlainRow}
+use Rattle.cost_certificate.specs.Tables.{HasRow, IsRowOver, IsValidTable}
+use Rattle.optimal_search.specs.Oracles.{PlainOracle, IsAlike, IsSoundOracle}
+use Rattle.observation_compile.specs.Observed.{observed_task, read_as}
+use Rattle.observation_compile.specs.Recognised.{IsRecognised}
+use Rattle.recognise.specs.Verdicts.{IsNearObserved, ShowsNo, IsRightVerdict}
+
+-- a fault that is passed on is the same
+pub passed_on : {T U E : Type 0} (r : Result T E) (x e : E) → IsErrAnd r (λ y. y ≡ x) → r ≡ Err e → ◌≡◌ {A = Result U E} (Err x) (Err e)
+passed_on (Ok y) x e h is = absurd h
+passed_on (Err y) x e h is = let same : y ≡ e = cc in ap Err (sym h ∙ same)
+
+-- an element behind others, or one of them
+at_push : {X : Type 0} (xs : List X) (x : X) (i : ℕ) (y : X) → slice_get (xs ++ x ∷ []) i ≡ Some y → (slice_get xs i ≡ Some y) ⊎ ((i ≡ length xs) × (x ≡ y))
+at_push [] x zero y e = inr (refl, cc)
+at_push [] x (suc i) y e = cc
+at_push (z ∷ xs) x zero y e = inl e
+at_push (z ∷ xs) x (suc i) y e = elim (at_push xs x i y e) as (λ _. (slice_get (z ∷ xs) (suc i) ≡ Some y) ⊎ ((suc i ≡ length (z ∷ xs)) × (x ≡ y))) [
+  | inl before ↦ inl before
+  | inr last ↦ inr (ap suc last.0, last.1)
+]
+
+-- the start has atoms of the task alone
+pub start_over : (t : PlainTask) (s : State) → IsTask t → s ≡ start_of t → IsOver t s
+start_over t s is same = λ n high.
+    ap (λ (x : State). x n) same ∙ list_any_none (λ (a : AtomId). eqb a.0 n) t.init (λ i d within. ne_eqb (get_or t.init i d).0 n (omega (arith, high, is.init.below i d within)))
+
+module _ (t : PlainTask) (os : List ActionId) (g : GoalId) where
+  -- an oracle that is asked about the observed task, without rows
+  abbrev pub asked : ℕ → PlainOracle
+  asked limit = record { task = observed_task t os; goal = g; removed = []; limit = limit; rows = [] }
+
+  -- one that is made for what is the observed task, and for no removed actions
+  pub asked_about : (o : PlainOracle) (made : PlainTask) (removed : List ActionId) (limit : ℕ) → o ≡ (record { task = made; goal = g; removed = removed; limit = limit; rows = [] })
+      → made ≡ observed_task t os → removed ≡ [] → o ≡ asked limit
+  asked_about o made removed limit new same none =
+      let about : PlainTask → List ActionId → PlainOracle = λ u xs. record { task = u; goal = g; removed = xs; limit = limit; rows = [] } in
+      new ∙ ap₂ about same none
+
+  -- a goal without a plan is not recognised
+  pub none_right : (table : List PlainRow) → IsCost t g [] None → table ≡ [] → (IsRecognised t g os → ⊥) × ShowsNo (observed_task t os) g table None
+  none_right table none empty = (λ is. none is.plan is.optimal.0, empty)
+
+  module _ (c : ℕ) (cost : IsCost t g [] (Some c)) where
+    -- a short path of the observed task that reads as a plan reads as an optimal one
+    pub yes_right : (p plan : List ActionId) → plan ≡ map (read_as t os) p → length p ≤ c → IsPlan t g [] (map (read_as t os) p) × Embeds os (map (read_as t os) p)
+        → IsOptimal t g [] plan × Embeds os plan
+    yes_right p plan is short (leads, embeds) =
+        let read = map (read_as t os) p in
+        let least : c ≤ length read = cost.1 read leads in
+        let long : c ≡ length read = omega (arith, least, short, length-map p (read_as t os)) in
+        subst (λ (xs : List ActionId). IsOptimal t g [] xs × Embeds os xs) (sym is) ((leads, subst (λ (n : ℕ). IsCost t g [] (Some n)) long cost), embeds)
+
+    -- where each path of the observed task is longer than the cost, the goal is not recognised
+    not_recognised : (IsRecognised t g os ↔ IsCost (observed_task t os) g [] (Some c)) → ((p : List ActionId) → IsPlan (observed_task t os) g [] p → c < length p) → IsRecognised t g os → ⊥
+    not_recognised law longer is =
+        let least = law.0 is in
+        let high : c < length least.0.0 = longer least.0.0 least.0.2 in
+        omega (arith, high, least.0.1)
+
+    -- what is near within the cost is near
+    near_observed : (u : State) → IsNearWithin (observed_task t os) g [] (start_of (observed_task t os)) c u → IsNearObserved t os g u
+    near_observed u near = record { cost = c; is_cost = cost; near = near }
+
+    module _ (limit : ℕ) (x : PlainOracle) (is : x ≡ asked limit) (s : State) (start : s ≡ start_of (observed_task t os)) where
+      -- what the oracle is asked about from the start is a plan of the observed task
+      reaches_plan : (p : List ActionId) → Reaches x.task x.goal x.removed s p ≡ IsPlan (observed_task t os) g [] p
+      reaches_plan p = ap₂ (λ (o : PlainOracle) (v : State). Reaches o.task o.goal o.removed v p) is start
+
+      -- a path that the oracle finds is a plan of the observed task
+      pub found_plan : (p : List ActionId) → Reaches x.task x.goal x.removed s p → IsPlan (observed_task t os) g [] p
+      found_plan p reaches = subst (λ (T : Type 0). T) (reaches_plan p) reaches
+
+      -- more states that are near within the cost are more near states
+      pub many_near : MoreThan x.limit (IsNearWithin x.task x.goal x.removed s c) → MoreThan limit (IsNearObserved t os g)
+      many_near more =
+          let Near : PlainOracle → State → State → Type 0 = λ o v u. IsNearWithin o.task o.goal o.removed v c u in
+          let near : All (IsNearWithin (observed_task t os) g [] (start_of (observed_task t os)) c) more.items =
+          subst (λ (v : State). All (Near (asked limit) v) more.items) start (subst (λ (o : PlainOracle). All (Near o s) more.items) is more.have) in
+          record {
+            items = more.items;
+            many = omega (arith, more.many, ap (λ (o : PlainOracle). o.limit) is);
+            differ = more.differ;
+            have = All-weaker (IsNearWithin (observed_task t os) g [] (start_of (observed_task t os)) c) (IsNearObserved t os g) near_observed more.items near;
+          }
+
+      -- where the oracle finds no path, the goal is not recognised, as its rows show
+      pub no_right : (y : PlainOracle) (table : List PlainRow) → IsAlike x y → IsSoundOracle y → All (IsRowOver y.task) y.rows → table ≡ y.rows → HasRow y.rows s (Steps c)
+          → ((p : List ActionId) → Reaches x.task x.goal x.removed s p → c < length p) → (IsRecognised t g os ↔ IsCost (observed_task t os) g [] (Some c))
+          → (IsRecognised t g os → ⊥) × ShowsNo (observed_task t os) g table (Some c)
+      no_right y table alike sound over rows row longer law =
+          let task : y.task ≡ observed_task t os = sym alike.task ∙ ap (λ (o : PlainOracle). o.task) is in
+          let goal : y.goal ≡ g = sym alike.goal ∙ ap (λ (o : PlainOracle). o.goal) is in
+          let removed : y.removed ≡ [] = sym alike.removed ∙ ap (λ (o : PlainOracle). o.removed) is in
+          let by_task : IsValidTable (observed_task t os) y.goal y.removed y.rows = subst (λ (u : PlainTask). IsValidTable u y.goal y.removed y.rows) task sound in
+          let by_goal : IsValidTable (observed_task t os) g y.removed y.rows = subst (λ (h : GoalId). IsValidTable (observed_task t os) h y.removed y.rows) goal by_task in
+          let valid : IsValidTable (observed_task t os) g [] y.rows = subst (λ (xs : List ActionId). IsValidTable (observed_task t os) g xs y.rows) removed by_goal in
+          let from : HasRow y.rows (start_of (observed_task t os)) (Steps c) = subst (λ (v : State). HasRow y.rows v (Steps c)) start row in
+          let each : All (IsRowOver (observed_task t os)) y.rows = subst (λ (u : PlainTask). All (IsRowOver u) y.rows) task over in (
+            not_recognised law (λ p plan. longer p (subst (λ (T : Type 0). T) (sym (reaches_plan p)) plan)),
+            subst (λ (xs : List PlainRow). ShowsNo (observed_task t os) g xs (Some c)) (sym rows) (valid, from, each),
+          )
+
+-- the verdicts on the first goals are right
+abbrev pub AreRight : PlainTask → List ActionId → List PlainCost → List Verdict → Type 0
+AreRight t os costs verdicts = (k : ℕ) (x : PlainCost) (verdict : Verdict) → slice_get costs k ≡ Some x → slice_get verdicts k ≡ Some verdict
+    → IsRightVerdict t os (record { 0 = k }) x.cost verdict
+
+module _ (t : PlainTask) (os : List ActionId) (costs : List PlainCost) (i : ℕ) (x : PlainCost) (low : i < length costs) (at : x ≡ get_or costs i x) where
+  -- the cost of the goal with this number
+  pub cost_at : (least : Option ℕ) → x.cost ≡ least → ((k : ℕ) (y : PlainCost) → slice_get costs k ≡ Some y → IsCost t (record { 0 = k }) [] y.cost) → IsCost t (record { 0 = i }) [] least
+  cost_at least is right = subst (λ (o : Option ℕ). IsCost t (record { 0 = i }) [] o) is (right i x (slice_get-get_or costs i x low ∙ ap Some (sym at)))
+
+  -- one right verdict more
+  pub right_push : (least : Option ℕ) → x.cost ≡ least → (xs ys : List Verdict) (y : Verdict) → ys ≡ xs ++ y ∷ [] → length xs ≡ i → IsRightVerdict t os (record { 0 = i }) least y
+      → AreRight t os costs xs → AreRight t os costs ys
+  right_push least is xs ys y more each here right k z verdict at_cost at_verdict =
+      elim (at_push xs y k verdict (ap (λ (zs : List Verdict). slice_get zs k) (sym more) ∙ at_verdict)) [
+        | inl old ↦ right k z verdict at_cost old
+        | inr new ↦
+            let k_is : k ≡ i = new.0 ∙ each in
+            let same : Some x ≡ Some z = ap Some at ∙ sym (slice_get-get_or costs i x low) ∙ ap (slice_get costs) (sym k_is) ∙ at_cost in
+            let z_is : least ≡ z.cost = sym is ∙ ap (λ (o : Option PlainCost). option_map_or (λ (u : PlainCost). u.cost) o None) same in
+            let one : IsRightVerdict t os (record { 0 = i }) z.cost y = subst (λ (o : Option ℕ). IsRightVerdict t os (record { 0 = i }) o y) z_is here in
+            let last : IsRightVerdict t os (record { 0 = i }) z.cost verdict = subst (λ (v : Verdict). IsRightVerdict t os (record { 0 = i }) z.cost v) new.1 one in
+            subst (λ (n : ℕ). IsRightVerdict t os (record { 0 = n }) z.cost verdict) (sym k_is) last
+      ]
+
+-- the rows of a right verdict have atoms of the observed task alone
+rows_over : (t : PlainTask) (os : List ActionId) (g : GoalId) (least : Option ℕ) (table : List PlainRow) → IsRightVerdict t os g least (No table) → All (IsRowOver (observed_task t os)) table
+rows_over t os g None table is = subst (λ (xs : List PlainRow). All (IsRowOver (observed_task t os)) xs) (sym is.1) (All-nil (IsRowOver (observed_task t os)))
+rows_over t os g (Some c) table is = is.1.2
+
+-- so have those of all verdicts
+pub all_over : {E : Type 0} (t : PlainTask) (os : List ActionId) (costs : List PlainCost) (n : ℕ) (r : Result (Vec Verdict Global) E) → length costs ≡ n → IfOk r (λ found. length found.items ≡ n) → IfOk r (λ found. AreRight t os costs found.items)
+    → IfOk r (λ found. (k : ℕ) (table : List PlainRow) → slice_get found.items k ≡ Some (No table) → All (IsRowOver (observed_task t os)) table)
+all_over t os costs n (Err e) each long right = tt
+all_over t os costs n (Ok found) each long right = λ k table at.
+    let none : PlainCost = record { cost = None; plan = []; table = [] } in
+    let low : k < length costs = omega (arith, each, long, slice_get_within found.items k (No table) at) in
+    rows_over t os (record { 0 = k }) (get_or costs k none).cost table (right k (get_or costs k none) (No table) (slice_get-get_or costs k none low) at)
