@@ -15,13 +15,18 @@ pub record PlainCost : Type 0 where
   pub table : List PlainRow
 
 -- a cost is shown by a plan of that length and, where it is not 0, by a valid table with a row of one
--- step less for the start; that there is no plan is shown by one with the row `Never` for the start.
--- What is not needed is empty
+-- step less for the start; that there is no plan is shown by one with the row `Never` for the start
 abbrev pub IsShown : PlainTask → GoalId → List ActionId → List ActionId → List PlainRow → Option ℕ → Type 0
-IsShown t g removed plan table (Some zero) = IsPlan t g removed plan × (length plan ≡ 0) × (table ≡ [])
+IsShown t g removed plan table (Some zero) = IsPlan t g removed plan × (length plan ≡ 0)
 IsShown t g removed plan table (Some (suc c)) =
     IsPlan t g removed plan × (length plan ≡ suc c) × IsValidTable t g removed table × HasRow table (start_of t) (Steps c)
-IsShown t g removed plan table None = (plan ≡ []) × IsValidTable t g removed table × HasRow table (start_of t) Never
+IsShown t g removed plan table None = IsValidTable t g removed table × HasRow table (start_of t) Never
+
+-- what the cost does not need is empty: the table of a cost of 0, and the plan where there is none
+abbrev pub HasNothingElse : List ActionId → List PlainRow → Option ℕ → Type 0
+HasNothingElse plan table (Some zero) = table ≡ []
+HasNothingElse plan table (Some (suc c)) = Unit {0}
+HasNothingElse plan table None = plan ≡ []
 
 -- a cost that its plan and its table show
 abbrev pub ShowsCost : PlainTask → GoalId → List ActionId → PlainCost → Type 0

@@ -2,4 +2,5 @@ pub mod Rows
 pub mod Tables
 pub mod Faults
 pub mod Found
+pub mod Verdicts
 pub mod Seen

@@ -11,7 +11,7 @@ use Rattle.grd_base.specs.declared.ids.AtomId.{AtomId}
 use Rattle.grd_base.specs.declared.ids.ActionId.{ActionId}
 use Rattle.grd_base.specs.Rising.{IsRisingBy}
 use Rattle.strips_model.specs.Values.{GroundAction, Goal, PlainTask, AreAtoms, IsActionBelow, IsTask}
-use Rattle.observation_compile.specs.Observed.{atom_of, atom_before, with_more, copy_of, no_action, copies_of, goal_with, observed_task}
+use Rattle.strips_model.specs.Observed.{atom_of, atom_before, with_more, copy_of, no_action, copies_of, goal_with, observed_task}
 
 -- what is copied for an observation
 abbrev pub seen : PlainTask → ActionId → GroundAction

@@ -13,11 +13,11 @@ use Rattle.grd_base.specs.declared.ids.AtomId.{AtomId}
 use Rattle.grd_base.specs.declared.ids.ActionId.{ActionId}
 use Rattle.grd_base.specs.declared.ids.GoalId.{GoalId}
 use Rattle.strips_model.specs.Values.{GroundAction, Goal, PlainTask, AreAtoms, IsActionBelow, IsTask}
-use Rattle.strips_model.specs.Plans.{State, set_of, has_all, can_apply, effect, step, step_without, after, satisfies, goal_holds, start_of, Reaches, IsPlan, IsCost, Embeds}
+use Rattle.strips_model.specs.Agents.{Embeds}
+use Rattle.strips_model.specs.Plans.{State, set_of, has_all, can_apply, effect, step, step_without, after, satisfies, goal_holds, start_of, Reaches, IsPlan, IsCost, IsRecognised}
 use Rattle.strips_model.proofs.StepLemmas.{kept_step}
 use Rattle.strips_model.proofs.MoveLemmas.{step_by}
-use Rattle.observation_compile.specs.Observed.{atom_of, atom_before, with_more, copy_of, no_action, copies_of, goal_with, observed_task, read_as}
-use Rattle.observation_compile.specs.Recognised.{IsRecognised}
+use Rattle.strips_model.specs.Observed.{atom_of, atom_before, with_more, copy_of, no_action, copies_of, goal_with, observed_task, read_as}
 
 -- a list of atoms below the bound has no atom past it
 none_past : (bound : ℕ) (xs : List AtomId) → All (λ a. a.0 < bound) xs → (n : ℕ) → bound ≤ n → set_of xs n ≡ false

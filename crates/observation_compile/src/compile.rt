@@ -1,6 +1,6 @@
 ghost use Rattle.std.specs.Prelude.{◌≡◌, ◌<◌, ◌≤◌, ◌^◌, ◌+◌, ◌++◌, ◌∷◌, [], length, map, Option, Some, None, IfOk, slice_get};
 ghost use Rattle.std.specs.Option.{unwrap_or};
-ghost use Rattle.observation_compile.specs.Observed.{atom_before, with_more, copy_of, no_action, copies_of, goal_with, observed_task};
+ghost use Rattle.strips_model.specs.Observed.{atom_before, with_more, copy_of, no_action, copies_of, goal_with, observed_task};
 
 use grd_base::{ActionId, AtomId, OutOfMemory};
 use std::alloc::Global;

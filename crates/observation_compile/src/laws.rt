@@ -2,9 +2,9 @@ ghost use Rattle.std.specs.Prelude.{◌≡◌, ◌↔◌, ℕ, List, [], map, So
 ghost use Rattle.grd_base.specs.declared.ids.ActionId.{ActionId};
 ghost use Rattle.grd_base.specs.declared.ids.GoalId.{GoalId};
 ghost use Rattle.strips_model.specs.Values.{PlainTask, IsTask};
-ghost use Rattle.strips_model.specs.Plans.{IsPlan, IsCost, Embeds};
-ghost use Rattle.observation_compile.specs.Observed.{observed_task, read_as};
-ghost use Rattle.observation_compile.specs.Recognised.{IsRecognised};
+ghost use Rattle.strips_model.specs.Agents.{Embeds};
+ghost use Rattle.strips_model.specs.Plans.{IsPlan, IsCost, IsRecognised};
+ghost use Rattle.strips_model.specs.Observed.{observed_task, read_as};
 
 /// The plans of a goal in the observed task are, with each copy read as its observation, the plans of the
 /// goal that embed the observations. So a goal with a cost is recognised exactly where it costs as much

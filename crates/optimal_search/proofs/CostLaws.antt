@@ -25,7 +25,7 @@ use Rattle.search_core.specs.Spaces.{IsPath, IsDoneWithin, Counts}
 use Rattle.search_core.specs.Answers.{IsDonePath}
 use Rattle.search_core.specs.Tables.{AreRefuted, AreCounted, HasNeverRow, unmarked}
 use Rattle.cost_certificate.specs.Tables.{HasRow as HasTableRow}
-use Rattle.cost_certificate.specs.Found.{PlainCost, IsShown}
+use Rattle.cost_certificate.specs.Found.{PlainCost, IsShown, HasNothingElse}
 use Rattle.optimal_search.specs.Space.{successors_of, holds_in, level_in}
 use Rattle.optimal_search.specs.Floors.{shows_level}
 use Rattle.optimal_search.specs.Rows.{row_of}
@@ -146,10 +146,16 @@ module _ {W : ℕ} (t : PlainTask) (g : GoalId) (is : IsTask t) (wide : t.atoms 
     -- the table of a path shows the cost
     path_shown : (plan : List ActionId) (n : ℕ) → IsPlan t g [] plan → length plan ≡ n → IsFar (successors_of t []) (holds_in t g) s n
         → RefuteFewer (successors_of t []) (holds_in t g) (level_in t g []) (shows_level t g []) s limit n rows → IsShown t g [] plan (map (row_of t g []) rows) (Some n)
-    path_shown plan zero is_plan long far none = (is_plan, long, ap (map (row_of t g [])) none)
+    path_shown plan zero is_plan long far none = (is_plan, long)
     path_shown plan (suc r) is_plan long far fewer =
         let states = each_state r (λ k done. let low : suc r ≤ k = far k done in omega (arith, low)) fewer.2 in
         (is_plan, long, rows_valid t g [] is wide rows states fewer.0, subst (λ x. HasTableRow (map (row_of t g []) rows) x (Steps r)) begins (has_row t g [] is wide rows s r states fewer.1))
+
+    -- nothing stands beside them
+    path_alone : (plan : List ActionId) (n : ℕ) → RefuteFewer (successors_of t []) (holds_in t g) (level_in t g []) (shows_level t g []) s limit n rows
+        → HasNothingElse plan (map (row_of t g []) rows) (Some n)
+    path_alone plan zero none = ap (map (row_of t g [])) none
+    path_alone plan (suc r) fewer = tt
 
     -- the states of the rows of a path are states of the task
     pub path_states : (n : ℕ) → IsFar (successors_of t []) (holds_in t g) s n
@@ -176,6 +182,7 @@ module _ {W : ℕ} (t : PlainTask) (g : GoalId) (is : IsTask t) (wide : t.atoms 
           cost = ((plan, refl, is_plan), λ p other. far (length p) (plan_done p other));
           within_limit = path.within_limit;
           shown = path_shown plan (length plan) is_plan refl far fewer;
+          alone = path_alone plan (length plan) fewer;
           kept = path_few (length plan) far fewer;
           over = rows_in_task t g [] is wide rows;
         }
@@ -195,7 +202,8 @@ module _ {W : ℕ} (t : PlainTask) (g : GoalId) (is : IsTask t) (wide : t.atoms 
         record {
           cost = λ p plan. none (length p) (plan_done p plan);
           within_limit = tt;
-          shown = (refl, rows_valid t g [] is wide rows states refuted, subst (λ x. HasTableRow (map (row_of t g []) rows) x Never) begins (has_never t g [] is wide rows s states never));
+          alone = refl;
+          shown = (rows_valid t g [] is wide rows states refuted, subst (λ x. HasTableRow (map (row_of t g []) rows) x Never) begins (has_never t g [] is wide rows s states never));
           kept = few_near counted.0 far counted.1;
           over = rows_in_task t g [] is wide rows;
         }

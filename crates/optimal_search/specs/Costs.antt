@@ -9,7 +9,7 @@ use Rattle.cost_certificate.specs.declared.rows.Why.{Why}
 use Rattle.cost_certificate.specs.declared.rows.Why.TheVariants.{Cuts, Steps as BySteps}
 use Rattle.cost_certificate.specs.Rows.{PlainRow}
 use Rattle.cost_certificate.specs.Tables.{IsRowOver}
-use Rattle.cost_certificate.specs.Found.{PlainCost, ShowsCost}
+use Rattle.cost_certificate.specs.Found.{PlainCost, HasNothingElse, ShowsCost}
 
 -- a state goes before others where its row is by steps
 abbrev pub with_state : Why → State → List State → List State
@@ -28,10 +28,11 @@ pub record AreFewNear (t : PlainTask) (g : GoalId) (limit : ℕ) (rows : List Pl
   pub few : length (states_by_steps rows) ≤ limit
 
 -- what was found of a goal is right: the cost is its cost, at most the limit, its plan and its table
--- show it, and the table keeps few states and names atoms of the task
+-- show it with nothing else beside them, and the table keeps few states and names atoms of the task
 pub record IsRightCost (t : PlainTask) (g : GoalId) (limit : ℕ) (found : PlainCost) : Type 0 where
   pub cost : IsCost t g [] found.cost
   pub within_limit : IfSome found.cost (λ c. c ≤ limit)
   pub shown : ShowsCost t g [] found
+  pub alone : HasNothingElse found.plan found.table found.cost
   pub kept : AreFewNear t g limit found.table
   pub over : All (IsRowOver t) found.table

@@ -8,7 +8,7 @@ use Rattle.grd_base.specs.declared.ids.ActionId.{ActionId}
 use Rattle.grd_base.specs.declared.ids.GoalId.{GoalId}
 use Rattle.strips_model.specs.Values.{PlainTask}
 use Rattle.strips_model.specs.Plans.{State, after, step, start_of, goal_holds, IsOptimal}
-use Rattle.strips_model.specs.Common.{BeginsWith}
+use Rattle.strips_model.specs.Agents.{BeginsWith}
 use Rattle.plain_search.specs.Walks.{Visit}
 use Rattle.plain_search.specs.Live.{AreDeep, IsAt, EndsAt, IsLive, IsNext}
 use Rattle.plain_search.proofs.WalkPlanLemmas.{after_push}

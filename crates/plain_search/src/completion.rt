@@ -1,7 +1,7 @@
 ghost use Rattle.std.specs.Prelude.{◌≡◌, ℕ, ◌+◌, ◌*◌, ◌<◌, ◌≤◌, [], length, IfOk, IfSome, IfNone};
 ghost use Rattle.grd_base.specs.Bits.{members};
 ghost use Rattle.strips_model.specs.Plans.{State, IsOptimal};
-ghost use Rattle.strips_model.specs.Common.{BeginsWith};
+ghost use Rattle.strips_model.specs.Agents.{BeginsWith};
 ghost use Rattle.plain_search.specs.Walks.{visits, IsWay};
 ghost use Rattle.plain_search.specs.Live.{AreDeep, IsAt, IsVisited, LeadsTo, EndsAt, IsLive, IsLiveFrom, IsLiveDeeper, IsNext};
 

@@ -14,17 +14,17 @@ use Rattle.grd_base.specs.declared.ids.GoalId.{GoalId}
 use Rattle.grd_base.specs.declared.limits.Bound.TheVariants.{Steps}
 use Rattle.grd_base.specs.Counts.{MoreThan}
 use Rattle.strips_model.specs.Values.{PlainTask, IsTask}
-use Rattle.strips_model.specs.Plans.{State, start_of, Reaches, IsPlan, IsCost, IsOptimal, IsOver, Embeds}
-use Rattle.strips_model.specs.Reached.{IsNearWithin}
+use Rattle.strips_model.specs.Agents.{Embeds}
+use Rattle.strips_model.specs.Plans.{State, start_of, Reaches, IsPlan, IsCost, IsOptimal, IsOver, IsRecognised}
+use Rattle.strips_model.specs.Reached.{IsNearWithin, IsNearObserved}
 use Rattle.cost_certificate.specs.declared.found.Verdict.{Verdict}
 use Rattle.cost_certificate.specs.declared.found.Verdict.TheVariants.{No}
 use Rattle.cost_certificate.specs.Found.{PlainCost}
 use Rattle.cost_certificate.specs.Rows.{PlainRow}
 use Rattle.cost_certificate.specs.Tables.{HasRow, IsRowOver, IsValidTable}
 use Rattle.optimal_search.specs.Oracles.{PlainOracle, IsAlike, IsSoundOracle}
-use Rattle.observation_compile.specs.Observed.{observed_task, read_as}
-use Rattle.observation_compile.specs.Recognised.{IsRecognised}
-use Rattle.recognise.specs.Verdicts.{IsNearObserved, ShowsNo, IsRightVerdict}
+use Rattle.strips_model.specs.Observed.{observed_task, read_as}
+use Rattle.cost_certificate.specs.Verdicts.{ShowsNo, plain_verdict, IsRightVerdict}
 
 -- a fault that is passed on is the same
 pub passed_on : {T U E : Type 0} (r : Result T E) (x e : E) → IsErrAnd r (λ y. y ≡ x) → r ≡ Err e → ◌≡◌ {A = Result U E} (Err x) (Err e)
@@ -125,7 +125,7 @@ module _ (t : PlainTask) (os : List ActionId) (g : GoalId) where
 -- the verdicts on the first goals are right
 abbrev pub AreRight : PlainTask → List ActionId → List PlainCost → List Verdict → Type 0
 AreRight t os costs verdicts = (k : ℕ) (x : PlainCost) (verdict : Verdict) → slice_get costs k ≡ Some x → slice_get verdicts k ≡ Some verdict
-    → IsRightVerdict t os (record { 0 = k }) x.cost verdict
+    → IsRightVerdict t os (record { 0 = k }) x.cost (plain_verdict verdict)
 
 module _ (t : PlainTask) (os : List ActionId) (costs : List PlainCost) (i : ℕ) (x : PlainCost) (low : i < length costs) (at : x ≡ get_or costs i x) where
   -- the cost of the goal with this number
@@ -133,7 +133,7 @@ module _ (t : PlainTask) (os : List ActionId) (costs : List PlainCost) (i : ℕ)
   cost_at least is right = subst (λ (o : Option ℕ). IsCost t (record { 0 = i }) [] o) is (right i x (slice_get-get_or costs i x low ∙ ap Some (sym at)))
 
   -- one right verdict more
-  pub right_push : (least : Option ℕ) → x.cost ≡ least → (xs ys : List Verdict) (y : Verdict) → ys ≡ xs ++ y ∷ [] → length xs ≡ i → IsRightVerdict t os (record { 0 = i }) least y
+  pub right_push : (least : Option ℕ) → x.cost ≡ least → (xs ys : List Verdict) (y : Verdict) → ys ≡ xs ++ y ∷ [] → length xs ≡ i → IsRightVerdict t os (record { 0 = i }) least (plain_verdict y)
       → AreRight t os costs xs → AreRight t os costs ys
   right_push least is xs ys y more each here right k z verdict at_cost at_verdict =
       elim (at_push xs y k verdict (ap (λ (zs : List Verdict). slice_get zs k) (sym more) ∙ at_verdict)) [
@@ -142,13 +142,13 @@ module _ (t : PlainTask) (os : List ActionId) (costs : List PlainCost) (i : ℕ)
             let k_is : k ≡ i = new.0 ∙ each in
             let same : Some x ≡ Some z = ap Some at ∙ sym (slice_get-get_or costs i x low) ∙ ap (slice_get costs) (sym k_is) ∙ at_cost in
             let z_is : least ≡ z.cost = sym is ∙ ap (λ (o : Option PlainCost). option_map_or (λ (u : PlainCost). u.cost) o None) same in
-            let one : IsRightVerdict t os (record { 0 = i }) z.cost y = subst (λ (o : Option ℕ). IsRightVerdict t os (record { 0 = i }) o y) z_is here in
-            let last : IsRightVerdict t os (record { 0 = i }) z.cost verdict = subst (λ (v : Verdict). IsRightVerdict t os (record { 0 = i }) z.cost v) new.1 one in
-            subst (λ (n : ℕ). IsRightVerdict t os (record { 0 = n }) z.cost verdict) (sym k_is) last
+            let one : IsRightVerdict t os (record { 0 = i }) z.cost (plain_verdict y) = subst (λ (o : Option ℕ). IsRightVerdict t os (record { 0 = i }) o (plain_verdict y)) z_is here in
+            let last : IsRightVerdict t os (record { 0 = i }) z.cost (plain_verdict verdict) = subst (λ (v : Verdict). IsRightVerdict t os (record { 0 = i }) z.cost (plain_verdict v)) new.1 one in
+            subst (λ (n : ℕ). IsRightVerdict t os (record { 0 = n }) z.cost (plain_verdict verdict)) (sym k_is) last
       ]
 
 -- the rows of a right verdict have atoms of the observed task alone
-rows_over : (t : PlainTask) (os : List ActionId) (g : GoalId) (least : Option ℕ) (table : List PlainRow) → IsRightVerdict t os g least (No table) → All (IsRowOver (observed_task t os)) table
+rows_over : (t : PlainTask) (os : List ActionId) (g : GoalId) (least : Option ℕ) (table : List PlainRow) → IsRightVerdict t os g least (plain_verdict (No table)) → All (IsRowOver (observed_task t os)) table
 rows_over t os g None table is = subst (λ (xs : List PlainRow). All (IsRowOver (observed_task t os)) xs) (sym is.1) (All-nil (IsRowOver (observed_task t os)))
 rows_over t os g (Some c) table is = is.1.2
 

@@ -2,7 +2,7 @@ ghost use Rattle.std.specs.Prelude.{◌≡◌, ℕ, ◌<◌, ◌≤◌, List, []
 ghost use Rattle.cost_certificate.specs.declared.found.Verdict.{Verdict};
 ghost use Rattle.cost_certificate.specs.Rows.{PlainRow};
 ghost use Rattle.cost_certificate.specs.Tables.{IsRowOver};
-ghost use Rattle.observation_compile.specs.Observed.{observed_task};
+ghost use Rattle.strips_model.specs.Observed.{observed_task};
 
 use super::*;
 use cost_certificate::{Table, valid_table};

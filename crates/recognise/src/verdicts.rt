@@ -1,10 +1,11 @@
 ghost use Rattle.std.specs.Prelude.{◌≡◌, ℕ, ◌*◌, ◌^◌, ◌<◌, ◌≤◌, [], length, map, All, Some, IfOk, slice_get};
 ghost use Rattle.grd_base.specs.Counts.{MoreThan};
 ghost use Rattle.strips_model.specs.Plans.{IsCost};
+ghost use Rattle.strips_model.specs.Reached.{IsNearObserved};
 ghost use Rattle.cost_certificate.specs.declared.found.Verdict.{Verdict};
 ghost use Rattle.cost_certificate.specs.Found.{PlainCost};
-ghost use Rattle.observation_compile.specs.Observed.{observed_task, read_as};
-ghost use Rattle.recognise.specs.Verdicts.{IsNearObserved, IsRightVerdict};
+ghost use Rattle.strips_model.specs.Observed.{observed_task, read_as};
+ghost use Rattle.cost_certificate.specs.Verdicts.{plain_verdict, IsRightVerdict};
 
 use cost_certificate::{CostFound, Table, Verdict};
 use grd_base::{ActionId, ActionSet, GoalId, Limits, OutOfMemory, by_width};
@@ -52,7 +53,7 @@ fn verdict_of<const W: usize>(
     requires goal { goal.0 < length task.now.goals }
     requires cost { IsCost task.now goal [] (Some cost) }
     requires limits { (limits.states ≤ 1000000) × (limits.sets ≤ 1000000) }
-    ensures right { IfOk result (IsRightVerdict task.now observations.now goal (Some cost)) }
+    ensures right { IfOk result (λ verdict. IsRightVerdict task.now observations.now goal (Some cost) (plain_verdict verdict)) }
     ensures many { (g : GoalId) → result ≡ Err (GoalSearchFault.TooManyStates g)
         → (g ≡ goal) × MoreThan limits.states (IsNearObserved task.now observations.now g) }
 {
@@ -89,7 +90,7 @@ fn all_verdicts<const W: usize>(
     ensures each_goal { IfOk result (λ verdicts. length verdicts.items ≡ length task.now.goals) }
     ensures right { IfOk result (λ verdicts. (k : ℕ) (x : PlainCost) (verdict : Verdict)
         → slice_get costs.now k ≡ Some x → slice_get verdicts.items k ≡ Some verdict
-        → IsRightVerdict task.now observations.now (record { 0 = k }) x.cost verdict) }
+        → IsRightVerdict task.now observations.now (record { 0 = k }) x.cost (plain_verdict verdict)) }
     ensures many { (g : GoalId) → result ≡ Err (GoalSearchFault.TooManyStates g)
         → (g.0 < length task.now.goals) × MoreThan limits.states (IsNearObserved task.now observations.now g) }
 {
@@ -136,7 +137,7 @@ pub fn recognise(
     ensures each_goal { IfOk result (λ verdicts. length verdicts.items ≡ length task.now.goals) }
     ensures right { IfOk result (λ verdicts. (k : ℕ) (x : PlainCost) (verdict : Verdict)
         → slice_get costs.now k ≡ Some x → slice_get verdicts.items k ≡ Some verdict
-        → IsRightVerdict task.now observations.now (record { 0 = k }) x.cost verdict) }
+        → IsRightVerdict task.now observations.now (record { 0 = k }) x.cost (plain_verdict verdict)) }
     ensures many { (g : GoalId) → result ≡ Err (GoalSearchFault.TooManyStates g)
         → (g.0 < length task.now.goals) × MoreThan limits.states (IsNearObserved task.now observations.now g) }
 {

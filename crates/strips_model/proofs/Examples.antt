@@ -10,7 +10,8 @@ use Rattle.grd_base.specs.declared.ids.ActionId.{ActionId}
 use Rattle.grd_base.specs.declared.ids.GoalId.{GoalId}
 use Rattle.strips_model.specs.Values.{PlainTask, GroundAction}
 use Rattle.strips_model.specs.Cuts.{cut}
-use Rattle.strips_model.specs.Plans.{State, set_of, is_step, step, step_without, after, goal_holds, start_of, IsCost, Embeds}
+use Rattle.strips_model.specs.Agents.{Embeds}
+use Rattle.strips_model.specs.Plans.{State, set_of, is_step, step, step_without, after, goal_holds, start_of, IsCost}
 use Rattle.strips_model.specs.Levels.{after_rounds, grown, IsLevel}
 use Rattle.strips_model.specs.Worlds.{Instance, World, task_of}
 

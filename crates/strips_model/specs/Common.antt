@@ -4,47 +4,43 @@ use Rattle.std.specs.Prelude.{◌≡◌, ◌≢◌, ℕ, ◌<◌, ◌≤◌, Lis
 use Rattle.grd_base.specs.declared.ids.ActionId.{ActionId}
 use Rattle.grd_base.specs.declared.ids.GoalId.{GoalId}
 use Rattle.strips_model.specs.Values.{PlainTask, PlainWitness}
+use Rattle.strips_model.specs.Agents.{BeginsOptimalAmong, IsCommonAmong, HasPlanAmong, IsWcdAmong, KeepsCostsAmong, IsBestAmong}
+use Rattle.strips_model.specs.Answers.{IsWitnessAmong, IsRightWcdAmong}
 use Rattle.strips_model.specs.Plans.{IsPlan, IsCost, IsOptimal}
-
--- the plan begins with the sequence
-abbrev pub BeginsWith : List ActionId → List ActionId → Type 0
-BeginsWith plan q = (rest : List ActionId) × (plan ≡ q ++ rest)
 
 -- some optimal plan of the goal, without the removed actions, begins with the sequence
 abbrev pub BeginsOptimal : PlainTask → GoalId → List ActionId → List ActionId → Type 0
-BeginsOptimal t g removed q = (plan : List ActionId) × IsOptimal t g removed plan × BeginsWith plan q
+BeginsOptimal t = BeginsOptimalAmong (IsPlan t)
 
 -- the sequence is common to the two goals: they are different, and it begins an optimal plan of each
-pub record IsCommon (t : PlainTask) (removed : List ActionId) (i j : GoalId) (q : List ActionId) : Type 0 where
-  pub different : i ≢ j
-  pub first : BeginsOptimal t i removed q
-  pub second : BeginsOptimal t j removed q
+abbrev pub IsCommon : PlainTask → List ActionId → GoalId → GoalId → List ActionId → Type 0
+IsCommon t = IsCommonAmong (IsPlan t)
 
 -- the goal has a plan without the removed actions
 abbrev pub HasPlan : PlainTask → GoalId → List ActionId → Type 0
-HasPlan t g removed = (plan : List ActionId) × IsPlan t g removed plan
+HasPlan t = HasPlanAmong (IsPlan t)
 
 -- the worst-case distinctiveness: some sequence of that length is common to two goals, and none that
 -- is longer is; or none, where fewer than two goals have plans
 abbrev pub IsWcd : PlainTask → List ActionId → Option ℕ → Type 0
-IsWcd t removed (Some n) =
-    ((i j : GoalId) × (q : List ActionId) × (length q ≡ n) × IsCommon t removed i j q)
-    × ((i j : GoalId) (q : List ActionId) → IsCommon t removed i j q → length q ≤ n)
-IsWcd t removed None = (i j : GoalId) → i ≢ j → HasPlan t i removed → HasPlan t j removed → ⊥
+IsWcd t = IsWcdAmong (IsPlan t)
+
+-- each goal costs without the removed actions what it costs with all, or has no plan either way
+abbrev pub KeepsCosts : PlainTask → List ActionId → Type 0
+KeepsCosts t = KeepsCostsAmong (IsPlan t)
+
+-- a best design for a budget
+abbrev pub IsBest : PlainTask → ℕ → List ActionId → Type 0
+IsBest t = IsBestAmong (IsPlan t)
 
 -- two goals, the first below the second, with an optimal plan of each that begins with the sequence
-pub record IsWitness (t : PlainTask) (removed : List ActionId) (w : PlainWitness) : Type 0 where
-  pub rise : w.goals.0.0 < w.goals.1.0
-  pub first : IsOptimal t w.goals.0 removed w.plans.0
-  pub second : IsOptimal t w.goals.1 removed w.plans.1
-  pub first_begins : BeginsWith w.plans.0 w.prefix
-  pub second_begins : BeginsWith w.plans.1 w.prefix
+abbrev pub IsWitness : PlainTask → List ActionId → PlainWitness → Type 0
+IsWitness t = IsWitnessAmong (IsPlan t)
 
 -- the witness is right: its sequence has the greatest length; or there is none, where fewer than two
 -- goals have plans
 abbrev pub IsRightWcd : PlainTask → List ActionId → Option PlainWitness → Type 0
-IsRightWcd t removed None = IsWcd t removed None
-IsRightWcd t removed (Some w) = IsWitness t removed w × IsWcd t removed (Some (length w.prefix))
+IsRightWcd t = IsRightWcdAmong (IsPlan t)
 
 -- what was found for a goal is right: an optimal plan, or none where there is no plan
 abbrev pub IsRight : PlainTask → GoalId → List ActionId → Option (List ActionId) → Type 0

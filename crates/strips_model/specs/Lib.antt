@@ -1,6 +1,9 @@
+pub mod Agents
 pub mod Values
 pub mod Plans
+pub mod Observed
 pub mod Reached
+pub mod Answers
 pub mod Common
 pub mod Worlds
 pub mod Cuts

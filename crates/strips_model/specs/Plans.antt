@@ -9,6 +9,7 @@ use Rattle.grd_base.specs.declared.ids.GoalId.{GoalId}
 use Rattle.grd_base.specs.Rising.{has_id}
 use Rattle.grd_base.specs.Sets.{Set, union, minus}
 use Rattle.strips_model.specs.Values.{GroundAction, Goal, PlainTask}
+use Rattle.strips_model.specs.Agents.{IsLeastLength, IsCostAmong, IsOptimalAmong, IsRecognisedAmong}
 
 -- a state: the set of the atoms that are true
 abbrev pub State : Type 0
@@ -76,23 +77,16 @@ IsPlan t g removed p = Reaches t g removed (start_of t) p
 -- the distance to the goal: some sequence of that length leads there from the state, and none
 -- that is shorter does; or none, where no sequence at all leads there
 abbrev pub IsDistance : PlainTask → GoalId → List ActionId → State → Option ℕ → Type 0
-IsDistance t g removed s (Some n) =
-    ((p : List ActionId) × (length p ≡ n) × Reaches t g removed s p)
-    × ((p : List ActionId) → Reaches t g removed s p → n ≤ length p)
-IsDistance t g removed s None = (p : List ActionId) → Reaches t g removed s p → ⊥
+IsDistance t g removed s c = IsLeastLength (Reaches t g removed s) c
 
 -- the cost of the goal: its distance from the start, the least length of a plan
 abbrev pub IsCost : PlainTask → GoalId → List ActionId → Option ℕ → Type 0
-IsCost t g removed c = IsDistance t g removed (start_of t) c
+IsCost t = IsCostAmong (IsPlan t)
 
 -- a plan whose length is the cost
 abbrev pub IsOptimal : PlainTask → GoalId → List ActionId → List ActionId → Type 0
-IsOptimal t g removed p = IsPlan t g removed p × IsCost t g removed (Some (length p))
+IsOptimal t = IsOptimalAmong (IsPlan t)
 
--- the sequence embeds the observations: they occur in it in their order, each at a place behind
--- that of the one before (Ramírez and Geffner 2009); the next place either carries the next
--- observation or is passed over
-abbrev pub Embeds : List ActionId → List ActionId → Type 0
-Embeds [] p = Unit {0}
-Embeds (o ∷ os) [] = ⊥
-Embeds (o ∷ os) (a ∷ p) = ((o ≡ a) × Embeds os p) ⊎ Embeds (o ∷ os) p
+-- some optimal plan of the goal embeds the observations
+abbrev pub IsRecognised : PlainTask → GoalId → List ActionId → Type 0
+IsRecognised t = IsRecognisedAmong (IsPlan t)

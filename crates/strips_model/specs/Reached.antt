@@ -5,6 +5,7 @@ use Rattle.grd_base.specs.declared.ids.GoalId.{GoalId}
 use Rattle.strips_model.specs.Values.{PlainTask}
 use Rattle.strips_model.specs.Plans.{State, after, start_of, IsCost}
 use Rattle.strips_model.specs.Levels.{IsLevel}
+use Rattle.strips_model.specs.Observed.{observed_task}
 
 -- some sequence leads from the start to the state, in at most as many steps as the goal costs; where the
 -- goal has no plan, of any length
@@ -35,3 +36,9 @@ pub record IsNearWithin (t : PlainTask) (g : GoalId) (removed : List ActionId) (
   pub level : ℕ
   pub level_is : IsLevel t g removed u (Some level)
   pub near : length path + level ≤ n
+
+-- the goal has a cost in the task, and the state is near within that of the start of the observed task
+pub record IsNearObserved (t : PlainTask) (os : List ActionId) (g : GoalId) (u : State) : Type 0 where
+  pub cost : ℕ
+  pub is_cost : IsCost t g [] (Some cost)
+  pub near : IsNearWithin (observed_task t os) g [] (start_of (observed_task t os)) cost u

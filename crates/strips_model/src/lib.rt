@@ -1,6 +1,7 @@
 // Tasks, their states and their plans.
 #![tactic(auto)]
 
+mod answer;
 mod family;
 mod index;
 mod lists;
@@ -9,6 +10,7 @@ mod steps;
 mod task;
 mod witness;
 
+pub use answer::{Answer, Design, GoalAnswer};
 pub use family::Family;
 pub use index::AtomIndex;
 pub use lists::{atoms_of, state_of};

@@ -2,7 +2,8 @@ ghost use Rattle.std.specs.Prelude.{◌≡◌, ◌*◌, ◌<◌, ◌≤◌, All,
 ghost use Rattle.std.specs.Option.{option_map};
 ghost use Rattle.grd_base.specs.Bits.{members};
 ghost use Rattle.grd_base.specs.Sets.{union, minus};
-ghost use Rattle.strips_model.specs.Plans.{set_of, has_all, start_of, is_step, step, goal_holds, after, Embeds};
+ghost use Rattle.strips_model.specs.Agents.{Embeds};
+ghost use Rattle.strips_model.specs.Plans.{set_of, has_all, start_of, is_step, step, goal_holds, after};
 
 use crate::task::Task;
 use grd_base::{ActionId, ActionSet, AtomId, Bits, GoalId};

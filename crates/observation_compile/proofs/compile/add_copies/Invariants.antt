@@ -1,5 +1,5 @@
 use Rattle.std.proofs.Common.{◌≡◌, ◌++◌, take}
-use Rattle.observation_compile.specs.Observed.{copies_of}
+use Rattle.strips_model.specs.Observed.{copies_of}
 use Rattle.observation_compile.proofs.compile.add_copies.Given as goal
 
 abbrev pub invariant-loop-k : goal.invariant-loop-k

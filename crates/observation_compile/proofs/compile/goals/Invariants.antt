@@ -1,5 +1,5 @@
 use Rattle.std.proofs.Common.{◌≡◌, map, take}
-use Rattle.observation_compile.specs.Observed.{goal_with}
+use Rattle.strips_model.specs.Observed.{goal_with}
 use Rattle.observation_compile.proofs.compile.goals.Given as goal
 
 abbrev pub invariant-loop-goal : goal.invariant-loop-goal

@@ -1,7 +1,7 @@
 use Rattle.std.proofs.Common.{◌≡◌, length, refl, sym, ◌∙◌, ap, arith, rules}
 use mathlib.Core.Path.{subst}
 use Rattle.grd_base.specs.declared.ids.GoalId.{GoalId}
-use Rattle.strips_model.specs.Common.{BeginsWith}
+use Rattle.strips_model.specs.Agents.{BeginsWith}
 use Rattle.plain_search.specs.Walks.{visits}
 use Rattle.plain_search.proofs.LiveLemmas.{depth_is}
 use Rattle.plain_search.proofs.CommonLemmas.{greatest}

@@ -4,7 +4,7 @@ use Rattle.std.proofs.lemmas.List.{length_push}
 use Rattle.grd_base.specs.declared.ids.GoalId.{GoalId}
 use Rattle.cost_certificate.specs.declared.found.Verdict.{Verdict}
 use Rattle.cost_certificate.specs.Found.{PlainCost}
-use Rattle.recognise.specs.Verdicts.{IsRightVerdict}
+use Rattle.cost_certificate.specs.Verdicts.{plain_verdict, IsRightVerdict}
 use Rattle.recognise.proofs.VerdictLemmas.{passed_on, none_right, cost_at, right_push}
 use Rattle.recognise.proofs.verdicts.all_verdicts.Goals as goal
 use Rattle.recognise.proofs.verdicts.all_verdicts.Goals.{in-Some+in_ok-verdict-in-Some, in-None}
@@ -34,10 +34,10 @@ loop-i-preserved g c =
       right = elim c.match-found.branch [
         | in-Some+in_ok-verdict-in-Some w ↦
             right_push t os costs c.loop-i.i x c.loop-i-test.true c.index-costs-i.is (Some w.in-Some.cost) (cost ∙ w.in-Some.is) c.loop-i.verdicts.items c.push.new.self.items verdict more is.each_goal
-            (subst (λ (v : Verdict). IsRightVerdict t os (record { 0 = c.loop-i.i }) (Some w.in-Some.cost) v) (sym w.verdict-is) w.in_ok-verdict-in-Some.ensures.right) is.right
+            (subst (λ (v : Verdict). IsRightVerdict t os (record { 0 = c.loop-i.i }) (Some w.in-Some.cost) (plain_verdict v)) (sym w.verdict-is) w.in_ok-verdict-in-Some.ensures.right) is.right
         | in-None w ↦
             let none = cost_at t os costs c.loop-i.i x c.loop-i-test.true c.index-costs-i.is None (cost ∙ w.in-None.is) c.requires.right in
             right_push t os costs c.loop-i.i x c.loop-i-test.true c.index-costs-i.is None (cost ∙ w.in-None.is) c.loop-i.verdicts.items c.push.new.self.items verdict more is.each_goal
-            (subst (λ (v : Verdict). IsRightVerdict t os (record { 0 = c.loop-i.i }) None v) (sym w.verdict-is) (none_right t os (record { 0 = c.loop-i.i }) w.new.result.items none w.new.ensures.items)) is.right
+            (subst (λ (v : Verdict). IsRightVerdict t os (record { 0 = c.loop-i.i }) None (plain_verdict v)) (sym w.verdict-is) (none_right t os (record { 0 = c.loop-i.i }) w.new.result.items none w.new.ensures.items)) is.right
       ];
     }

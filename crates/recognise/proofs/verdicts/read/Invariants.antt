@@ -1,5 +1,5 @@
 use Rattle.std.proofs.Common.{◌≡◌, map, take}
-use Rattle.observation_compile.specs.Observed.{read_as}
+use Rattle.strips_model.specs.Observed.{read_as}
 use Rattle.recognise.proofs.verdicts.read.Given as goal
 
 abbrev pub invariant-loop-a : goal.invariant-loop-a

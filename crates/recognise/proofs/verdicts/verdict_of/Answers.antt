@@ -6,8 +6,8 @@ use Rattle.grd_base.specs.Bits.{members}
 use Rattle.grd_base.specs.Counts.{MoreThan}
 use Rattle.strips_model.specs.Plans.{start_of, IsOver}
 use Rattle.optimal_search.specs.Oracles.{PlainOracle}
-use Rattle.observation_compile.specs.Observed.{read_as}
-use Rattle.recognise.specs.Verdicts.{IsNearObserved}
+use Rattle.strips_model.specs.Observed.{read_as}
+use Rattle.strips_model.specs.Reached.{IsNearObserved}
 use Rattle.recognise.proofs.VerdictLemmas.{start_over, asked, asked_about, yes_right, found_plan, many_near, no_right}
 use Rattle.recognise.proofs.verdicts.verdict_of.Goals as goal
 
