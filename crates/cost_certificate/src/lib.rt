@@ -1,4 +1,25 @@
-// Tables that show how far states are from a goal, and the test of a table.
+//! Tables that show how far states are from a goal, and the test of a table.
+//!
+//! But for want of memory, `valid_table` answers that a table is valid for a task, a goal and removed
+//! actions exactly where it is, and else its first fault, by kind, row and set. The rows of a valid table
+//! mean what they say: no sequence of at most so many actions leads from the row's state to the goal without
+//! the removed actions, and none at all for `Never`. This law is `rows_refute`.
+//!
+//! | file | what it has |
+//! |---|---|
+//! | `rows.rt` | rows and tables |
+//! | `found.rt` | what is found of a goal, and verdicts: types that the crates above fill |
+//! | `kinds.rt` | what a certificate can fail, and the fault of a table |
+//! | `order.rt` | compares bounds |
+//! | `cuts.rt` | gathers the cuts of the sets of a row |
+//! | `soundness.rt` | looks at each row for itself, over these cuts |
+//! | `bounds.rt` | looks at what rows by steps need of others, over a hashed map of best bounds |
+//! | `table.rt` | the test of a table |
+//! | `laws.rt` | the law of valid tables |
+//!
+//! The definitions that contracts cite are in `specs/`: `Rows.antt`, `Tables.antt`, `Faults.antt`,
+//! `Found.antt`.
+
 #![tactic(auto)]
 
 mod bounds;

@@ -1,4 +1,17 @@
-// Whether goals are recognised: whether an optimal plan embeds the observations.
+//! Whether goals are recognised: whether an optimal plan embeds the observations.
+//!
+//! `recognise`, which takes the costs of the goals, answers Yes exactly where some optimal plan of a goal
+//! embeds the observations, with such a plan, and else No; for a goal with a cost with a valid table of the
+//! observed task, which refutes as many steps as the goal costs. Too many states is answered only for a goal
+//! with a cost for which more states of the observed task than the limit are near, and else only want of
+//! memory.
+//!
+//! | file | what it does |
+//! |---|---|
+//! | `verdicts.rt` | asks an oracle of the observed task for each goal, within as many steps as it costs |
+//!
+//! The definitions that the contract cites are in `specs/Verdicts.antt`.
+
 #![tactic(auto)]
 
 mod verdicts;

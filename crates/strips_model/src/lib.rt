@@ -1,4 +1,25 @@
-// Tasks, their states and their plans.
+//! Planning tasks over numbered atoms and ground actions: their states, steps, goals and plans.
+//!
+//! Over states as plain sets of atoms, the start, whether an action applies, its step, whether a goal holds,
+//! the state after a sequence, and whether a plan embeds observations are their definitions; none of these
+//! calls takes memory. `Moves` has the actions that are neither blocked nor removed, `atoms_of` the rising
+//! list of a state, and an `AtomIndex` lists of actions by atoms. The law `known_task` says what holds of
+//! every task.
+//!
+//! | file | what it has |
+//! |---|---|
+//! | `task.rt` | tasks, with their actions and goals |
+//! | `steps.rt` | the start, steps, goals, plans and observations |
+//! | `lists.rt` | states as lists of atoms |
+//! | `moves.rt` | a task and removed actions, with the allowed actions |
+//! | `index.rt` | lists of actions by atoms |
+//! | `family.rt` | sets of atoms whose cuts are counted |
+//! | `witness.rt` | a sequence with two goals and a plan of each |
+//!
+//! The definitions that contracts cite, here and in the crates above, are in `specs/`: `Values.antt`,
+//! `Plans.antt`, `Levels.antt`, `Reached.antt`, `Cuts.antt`, `Common.antt`, and then `Moves.antt`,
+//! `StateLists.antt`, `Index.antt`, `Worlds.antt`.
+
 #![tactic(auto)]
 
 mod answer;
