@@ -18,7 +18,7 @@
 //! | `laws.rt` | the law of valid tables |
 //!
 //! The definitions that contracts cite are in `specs/`: `Rows.antt`, `Tables.antt`, `Faults.antt`,
-//! `Found.antt`.
+//! `Found.antt`, `Verdicts.antt`.
 
 #![tactic(auto)]
 

@@ -10,7 +10,7 @@
 //! | `compile.rt` | makes the observed task |
 //! | `laws.rt` | has the law of its plans |
 //!
-//! The definitions that contracts cite are in `specs/`: `Observed.antt`, `Recognised.antt`.
+//! The contracts speak in the terms of `strips_model`: `Observed.antt` and `Plans.antt` there.
 
 #![tactic(auto)]
 

@@ -10,7 +10,7 @@
 //! |---|---|
 //! | `verdicts.rt` | asks an oracle of the observed task for each goal, within as many steps as it costs |
 //!
-//! The definitions that the contract cites are in `specs/Verdicts.antt`.
+//! The contract speaks in the terms of `cost_certificate`, `Verdicts.antt` there, and of `strips_model`.
 
 #![tactic(auto)]
 

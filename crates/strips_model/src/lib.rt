@@ -15,9 +15,11 @@
 //! | `index.rt` | lists of actions by atoms |
 //! | `family.rt` | sets of atoms whose cuts are counted |
 //! | `witness.rt` | a sequence with two goals and a plan of each |
+//! | `answer.rt` | all that is answered of a task, which no call makes yet |
 //!
-//! The definitions that contracts cite, here and in the crates above, are in `specs/`: `Values.antt`,
-//! `Plans.antt`, `Levels.antt`, `Reached.antt`, `Cuts.antt`, `Common.antt`, and then `Moves.antt`,
+//! The definitions that contracts cite, here and in the crates above, are in `specs/`: `Values.antt`;
+//! `Agents.antt` and `Answers.antt`, which speak of any relation of plans; `Plans.antt` and `Common.antt`, the
+//! same for a task; `Observed.antt`, `Levels.antt`, `Reached.antt`, `Cuts.antt`, and then `Moves.antt`,
 //! `StateLists.antt`, `Index.antt`, `Worlds.antt`.
 
 #![tactic(auto)]
