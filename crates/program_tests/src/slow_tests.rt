@@ -1,5 +1,6 @@
 // Random small tasks through `run`, against a slow calculation straight from the definitions.
-use crate::tests::{NO_FAILURE, Texts, WCD, run_on};
+use crate::runs::{NO_FAILURE, run_on};
+use crate::samples::{Texts, WCD};
 use std::alloc::Global;
 use std::fmt::Write;
 use std::test::Fail;
@@ -219,25 +220,30 @@ fn without_plans(alloc: Global, report: &str) -> Result<String, Fail> {
     Ok(lines)
 }
 
+/// The report of `wcd` by the program, without the plans.
+fn found_report(alloc: Global, task: &SmallTask) -> Result<String, Fail> {
+    let domain = domain_text(alloc, task)?;
+    let problem = problem_text(alloc, task)?;
+    let goals = goals_text(alloc, task)?;
+    let texts = Texts {
+        domain: domain.as_str(),
+        problem: problem.as_str(),
+        goals: goals.as_str(),
+    };
+    let outcome = run_on(alloc, WCD, texts, NO_FAILURE)?;
+    without_plans(alloc, outcome.out.as_str())
+}
+
 #[test]
 fn random_tasks_are_answered_as_the_definitions_say(rt: HostRuntime) -> Result<(), Fail> {
     let mut seed = 1;
-    for _ in 0..200 {
+    for number in 0..200 {
         let mut task = random_task(&mut seed);
         // A goal has an atom.
         task.goals = [task.goals[0].max(1), task.goals[1].max(1)];
-        let domain = domain_text(rt.alloc(), &task)?;
-        let problem = problem_text(rt.alloc(), &task)?;
-        let goals = goals_text(rt.alloc(), &task)?;
-        let texts = Texts {
-            domain: domain.as_str(),
-            problem: problem.as_str(),
-            goals: goals.as_str(),
-        };
-        let outcome = run_on(rt.alloc(), WCD, texts, NO_FAILURE)?;
-        let found = without_plans(rt.alloc(), outcome.out.as_str())?;
-        let want = slow_report(rt.alloc(), &task)?;
-        assert_eq!(rt; found.as_str(), want.as_str(), "{domain} {problem} {goals}");
+        let found = found_report(rt.alloc(), &task)?;
+        let wanted = slow_report(rt.alloc(), &task)?;
+        assert_eq!(rt; found.as_str(), wanted.as_str(), "task {number}");
     }
     Ok(())
 }

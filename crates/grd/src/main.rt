@@ -1,26 +1,8 @@
 // The program `grd`: the costs of goals in planning tasks, and how long goals can be hidden.
 #![tactic(auto)]
 
-mod answer;
-mod command;
-mod errors;
-mod files;
-mod job;
-mod report;
-mod run;
-mod show;
-#[cfg(test)]
-mod slow_tests;
-mod status;
-#[cfg(test)]
-mod tests;
-mod typed;
-#[cfg(test)]
-mod word_tests;
-mod words;
-
 use grd_io::{HostShelf, HostSink};
-use run::run;
+use grd_program::{Status, run};
 use std::process::ExitCode;
 use std::{env, io};
 
@@ -34,7 +16,7 @@ fn main(rt: HostRuntime) -> ExitCode {
         Ok(all) => {
             for word in all.skip(1) {
                 if words.push(word).is_err() {
-                    return ExitCode::from(status::Status::OutOfMemory.code());
+                    return ExitCode::from(Status::OutOfMemory.code());
                 }
             }
         }
@@ -50,7 +32,7 @@ fn main(rt: HostRuntime) -> ExitCode {
 /// The exit status where the words can't be had.
 fn code_without_words(error: &io::Error) -> u8 {
     match error.kind() {
-        io::ErrorKind::OutOfMemory => status::Status::OutOfMemory.code(),
+        io::ErrorKind::OutOfMemory => Status::OutOfMemory.code(),
         _ => NO_WORDS,
     }
 }
