@@ -17,7 +17,6 @@ use Rattle.command_words.specs.declared.faults.WordsFault.TheVariants.{Usage, Ou
 use Rattle.command_words.specs.Commands.{PlainJob, Reads, IsUsageFault}
 use Rattle.grd_program.specs.declared.question.Question.{Question}
 use Rattle.pddl_print.specs.Canonical.{domain_text, problem_text}
-use Rattle.grd_program.specs.Runs.{IsReportOn}
 use Rattle.grd_base.specs.declared.roles.FileRole.{FileRole}
 use Rattle.pddl_reader.specs.declared.faults.PddlFault.{PddlFault}
 use Rattle.pddl_reader.specs.declared.faults.PddlFault.TheVariants.{Lex, Tree, Shape as PddlShape, Unsupported, DoubledSection, OutOfMemory as PddlMemory}
@@ -25,7 +24,7 @@ use Rattle.grd_program.specs.declared.status.Status.{Status}
 use Rattle.grd_program.specs.declared.status.Status.TheVariants.{Done, Refused, Usage as BadUsage, Limit, ReadFailed, WriteFailed, OutOfMemory}
 use Rattle.grd_program.specs.declared.status.Refusal.TheVariants.{TooLong, Pddl, Typing, Goals as OfGoals, Count}
 use Rattle.grd_program.specs.Causes.{HasText, FailsTyping, SpellsOnlyGoals}
-use Rattle.grd_program.specs.Runs.{SpellsOnly, IsWorldReport, IsShownText, IsReportText, IsShowText, TakesTexts, TakesFiles, HasReadingCause, HasFilesCause, ReadsOnly, HasOnlyUsageFault}
+use Rattle.grd_program.specs.Runs.{IsReportOn, SpellsOnly, IsWorldReport, IsShownText, IsReportText, IsShowText, TakesTexts, TakesFiles, HasReadingCause, HasFilesCause, ReadsOnly, HasOnlyUsageFault}
 
 -- the text that was read has the property
 pub has : (told : Told) (bytes : List ℕ) (P : List ℕ → Type 0) → IsWholeFile told bytes → length bytes ≤ 2 ^ 20 → P bytes → HasText told P

@@ -1,6 +1,5 @@
 use Rattle.std.proofs.Common.{subst}
-use Rattle.grd_program.specs.Runs.{IsReportOn}
-use Rattle.grd_program.specs.Runs.{IsReportText}
+use Rattle.grd_program.specs.Runs.{IsReportOn, IsReportText}
 use Rattle.grd_program.proofs.FileLemmas.{ok_more, report_text_is}
 use Rattle.grd_program.proofs.answer.report_of_files.Goals as goal
 
