@@ -4,7 +4,7 @@
 //! ends as it does, and where it has to succeed. The clauses stand on `run` itself; their words are
 //! defined in `specs/Runs.antt`, and below it in `specs/Causes.antt` and `specs/Errors.antt`.
 //!
-//! - `run.rt`: makes the whole text, writes it, and writes the line of what went wrong.
+//! - `program.rt`: makes the whole text, writes it, and writes the line of what went wrong.
 //! - `answer.rt`: the text that answers the words: reads, grounds, searches and reports.
 //! - `files.rt`: the domain, the problem and the goals from their files.
 //! - `typed.rt`: the domain and the problem with their types checked.
@@ -17,12 +17,12 @@
 mod answer;
 mod errors;
 mod files;
+mod program;
 mod question;
-mod run;
 mod show;
 mod status;
 mod typed;
 
 pub use errors::error_line;
-pub use run::run;
+pub use program::run;
 pub use status::{LimitFault, Refusal, Status, Target};

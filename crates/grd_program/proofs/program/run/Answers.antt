@@ -1,6 +1,6 @@
 use Rattle.std.proofs.Common.{map, string_bytes}
 use Rattle.grd_program.proofs.CompleteLemmas.{complete, cause_kept}
-use Rattle.grd_program.proofs.run.run.Goals as goal
+use Rattle.grd_program.proofs.program.run.Goals as goal
 
 pub returns-clause-complete : goal.returns-clause-complete
 returns-clause-complete g c =
