@@ -5,9 +5,9 @@
 # triples: one action of three objects of any type; no instance is blocked.
 set -eu
 top=$(cd "$(dirname "$0")/.." && pwd)
-cd "$top/crates/grd_program"
+cd "$top/crates/grd"
 rt run >/dev/null 2>&1 || true
-program=$PWD/out/grd_program
+program=$PWD/out/grd
 work=$(mktemp -d)
 trap 'rm -rf "$work"' EXIT
 cat > "$work/run.py" <<'END'

@@ -10,9 +10,9 @@
 # below what the measuring Python had itself, some 15 MiB, so it tells of the larger tasks alone.
 set -eu
 top=$(cd "$(dirname "$0")/.." && pwd)
-cd "$top/crates/grd_program"
+cd "$top/crates/grd"
 rt run >/dev/null 2>&1 || true
-program=$PWD/out/grd_program
+program=$PWD/out/grd
 work=$(mktemp -d)
 trap 'rm -rf "$work"' EXIT
 python3 - "$program" "$work" <<'END'

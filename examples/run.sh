@@ -3,9 +3,9 @@
 # status with what is wanted. Then it runs it on words and files that are refused.
 set -u
 top=$(cd "$(dirname "$0")/.." && pwd)
-cd "$top/crates/grd_program" || exit 1
+cd "$top/crates/grd" || exit 1
 rt run >/dev/null 2>&1 || true
-program=out/grd_program
+program=out/grd
 failed=0
 printed=$(mktemp)
 warned=$(mktemp)

@@ -21,11 +21,11 @@ use Rattle.grd_program.specs.declared.status.Status.{Status}
 use Rattle.grd_program.specs.declared.status.Status.TheVariants.{Done, Refused, Usage, Limit, ReadFailed, WriteFailed, OutOfMemory}
 use Rattle.grd_program.specs.declared.status.Refusal.TheVariants.{TooLong, Pddl, Typing, Goals as OfGoals, Count}
 use Rattle.grd_program.specs.declared.status.LimitFault.TheVariants.{States}
-use Rattle.grd_program.specs.declared.command.Command.{Command}
-use Rattle.grd_program.specs.declared.command.Command.TheVariants.{Cost, Wcd, Show}
-use Rattle.grd_program.specs.declared.report.Question.{Question}
-use Rattle.grd_program.specs.declared.report.Question.TheVariants.{Costs, Wcd as OfWcd}
-use Rattle.grd_program.specs.Commands.{PlainJob, Reads}
+use Rattle.command_words.specs.declared.command.Command.{Command}
+use Rattle.command_words.specs.declared.command.Command.TheVariants.{Cost, Wcd, Show}
+use Rattle.grd_program.specs.declared.question.Question.{Question}
+use Rattle.grd_program.specs.declared.question.Question.TheVariants.{Costs, Wcd as OfWcd}
+use Rattle.command_words.specs.Commands.{PlainJob, Reads}
 use Rattle.grd_program.specs.Causes.{HasText, FailsDomain, FailsProblem, HasFew, HasCountCause, SpellsOnlyGoals, HasOnlyFault}
 use Rattle.grd_program.specs.Runs.{SpellsOnly, TakesTexts, TakesTyped, TakesGoals, ReadsOnly, HasTexts, HasNoFault, CanReport, CanAnswer, HasTextsCause, HasTypedCause, HasFilesCause, HasCommandCause, HasCause, MayBecome, CountsFor, MeetsLimit, IsComplete}
 

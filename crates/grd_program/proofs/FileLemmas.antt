@@ -11,13 +11,12 @@ use Rattle.type_check.specs.declared.faults.CheckTypeFault.{CheckTypeFault}
 use Rattle.type_check.specs.declared.faults.CheckTypeFault.TheVariants.{Typing as IsTyping, OutOfMemory as TypingMemory}
 use Rattle.goal_files.specs.declared.faults.GoalFault.{GoalFault}
 use Rattle.goal_files.specs.declared.faults.GoalFault.TheVariants.{Shape, UnknownAtom, NoGoal, TooManyGoals, OutOfMemory as GoalsMemory}
-use Rattle.grd_program.specs.declared.status.UsageFault.{UsageFault}
-use Rattle.grd_program.specs.declared.words.WordsFault.{WordsFault}
-use Rattle.grd_program.specs.declared.words.WordsFault.TheVariants.{Usage, OutOfMemory as NoMemory}
-use Rattle.grd_program.specs.Commands.{PlainJob, Reads, IsUsageFault}
-use Rattle.grd_program.specs.declared.report.Question.{Question}
+use Rattle.command_words.specs.declared.faults.UsageFault.{UsageFault}
+use Rattle.command_words.specs.declared.faults.WordsFault.{WordsFault}
+use Rattle.command_words.specs.declared.faults.WordsFault.TheVariants.{Usage, OutOfMemory as NoMemory}
+use Rattle.command_words.specs.Commands.{PlainJob, Reads, IsUsageFault}
+use Rattle.grd_program.specs.declared.question.Question.{Question}
 use Rattle.pddl_print.specs.Canonical.{domain_text, problem_text}
-use Rattle.grd_program.specs.Reports.{IsReportOn}
 use Rattle.grd_base.specs.declared.roles.FileRole.{FileRole}
 use Rattle.pddl_reader.specs.declared.faults.PddlFault.{PddlFault}
 use Rattle.pddl_reader.specs.declared.faults.PddlFault.TheVariants.{Lex, Tree, Shape as PddlShape, Unsupported, DoubledSection, OutOfMemory as PddlMemory}
@@ -25,7 +24,7 @@ use Rattle.grd_program.specs.declared.status.Status.{Status}
 use Rattle.grd_program.specs.declared.status.Status.TheVariants.{Done, Refused, Usage as BadUsage, Limit, ReadFailed, WriteFailed, OutOfMemory}
 use Rattle.grd_program.specs.declared.status.Refusal.TheVariants.{TooLong, Pddl, Typing, Goals as OfGoals, Count}
 use Rattle.grd_program.specs.Causes.{HasText, FailsTyping, SpellsOnlyGoals}
-use Rattle.grd_program.specs.Runs.{SpellsOnly, IsWorldReport, IsShownText, IsReportText, IsShowText, TakesTexts, TakesFiles, HasReadingCause, HasFilesCause, ReadsOnly, HasOnlyUsageFault}
+use Rattle.grd_program.specs.Runs.{IsReportOn, SpellsOnly, IsWorldReport, IsShownText, IsReportText, IsShowText, TakesTexts, TakesFiles, HasReadingCause, HasFilesCause, ReadsOnly, HasOnlyUsageFault}
 
 -- the text that was read has the property
 pub has : (told : Told) (bytes : List ℕ) (P : List ℕ → Type 0) → IsWholeFile told bytes → length bytes ≤ 2 ^ 20 → P bytes → HasText told P

@@ -6,8 +6,8 @@ use Rattle.grd_base.specs.Counts.{MoreThan}
 use Rattle.strips_model.specs.Values.{PlainTask}
 use Rattle.strips_model.specs.Plans.{State, IsCost}
 use Rattle.strips_model.specs.Reached.{IsReachedFor, IsNear}
-use Rattle.grd_program.specs.declared.report.Question.{Question}
-use Rattle.grd_program.specs.declared.report.Question.TheVariants.{Costs, Wcd}
+use Rattle.grd_program.specs.declared.question.Question.{Question}
+use Rattle.grd_program.specs.declared.question.Question.TheVariants.{Costs, Wcd}
 use Rattle.grd_program.specs.Runs.{CountsFor}
 
 near_reached : (t : PlainTask) (g : GoalId) (s : State) → IsNear t g s → IsReachedFor t g s

@@ -20,11 +20,11 @@ use Rattle.grd_program.specs.declared.status.Status.{Status}
 use Rattle.grd_program.specs.declared.status.Status.TheVariants.{Done, Refused, Usage, Limit, ReadFailed, WriteFailed, OutOfMemory}
 use Rattle.grd_program.specs.declared.status.Refusal.{Refusal}
 use Rattle.grd_program.specs.declared.status.Refusal.TheVariants.{TooLong, Pddl, Typing, Goals as OfGoals, Count}
-use Rattle.grd_program.specs.declared.status.UsageFault.{UsageFault}
-use Rattle.grd_program.specs.declared.status.UsageFault.TheVariants.{NoCommand, UnknownCommand, BadItem, Repeated, Missing, BadNumber}
+use Rattle.command_words.specs.declared.faults.UsageFault.{UsageFault}
+use Rattle.command_words.specs.declared.faults.UsageFault.TheVariants.{NoCommand, UnknownCommand, BadItem, Repeated, Missing, BadNumber}
 use Rattle.grd_program.specs.declared.status.LimitFault.TheVariants.{States}
 use Rattle.grd_program.specs.declared.status.Target.TheVariants.{Output}
-use Rattle.grd_program.specs.Commands.{flag_of}
+use Rattle.command_words.specs.Commands.{flag_of}
 
 -- the word of a file
 abbrev pub role_text : FileRole → List ℕ

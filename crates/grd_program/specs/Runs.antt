@@ -1,10 +1,12 @@
 -- What a run of the program does.
-use Rattle.std.specs.Prelude.{◌≡◌, ◌≢◌, ℕ, ◌^◌, ◌<◌, ◌≤◌, ◌⊎◌, List, ◌++◌, length, take, Bool, false, Option, Some, IfSome}
+use Rattle.std.specs.Prelude.{◌≡◌, ◌≢◌, ℕ, ◌^◌, ◌<◌, ◌≤◌, ◌⊎◌, List, [], ◌++◌, length, take, Bool, false, Option, Some, IfSome}
+use Rattle.grd_base.specs.declared.ids.ActionId.{ActionId}
 use Rattle.grd_base.specs.declared.ids.GoalId.{GoalId}
 use Rattle.grd_base.specs.declared.roles.FileRole.TheVariants.{Domain, Problem, Goals}
 use Rattle.grd_io.specs.Bytes.{Told, extended, IsLongerFile}
 use Rattle.grd_io.specs.Causes.{Rose}
-use Rattle.strips_model.specs.Values.{PlainTask}
+use Rattle.strips_model.specs.Values.{PlainTask, PlainWitness}
+use Rattle.strips_model.specs.Common.{AreRight, IsRightWcd}
 use Rattle.grd_base.specs.Counts.{MoreThan}
 use Rattle.strips_model.specs.Plans.{State}
 use Rattle.strips_model.specs.Reached.{IsReachedFor, IsNear}
@@ -17,19 +19,32 @@ use Rattle.ground_all.specs.Grounding.{ground_task}
 use Rattle.goal_files.specs.declared.faults.GoalFault.TheVariants.{OutOfMemory as GoalsOutOfMemory}
 use Rattle.pddl_reader.specs.declared.faults.PddlFault.TheVariants.{OutOfMemory as PddlOutOfMemory}
 use Rattle.pddl_print.specs.Canonical.{domain_text, problem_text}
-use Rattle.grd_program.specs.declared.command.Command.{Command}
-use Rattle.grd_program.specs.declared.command.Command.TheVariants.{Cost, Wcd, Show}
-use Rattle.grd_program.specs.declared.report.Question.{Question}
-use Rattle.grd_program.specs.declared.report.Question.TheVariants.{Costs, Wcd as OfWcd}
+use Rattle.command_words.specs.declared.command.Command.{Command}
+use Rattle.command_words.specs.declared.command.Command.TheVariants.{Cost, Wcd, Show}
+use Rattle.grd_program.specs.declared.question.Question.{Question}
+use Rattle.grd_program.specs.declared.question.Question.TheVariants.{Costs, Wcd as OfWcd}
 use Rattle.grd_program.specs.declared.status.Status.{Status}
 use Rattle.grd_program.specs.declared.status.Status.TheVariants.{Done, Refused, Usage, Limit, ReadFailed, WriteFailed, OutOfMemory}
 use Rattle.grd_program.specs.declared.status.Refusal.TheVariants.{TooLong, Pddl, Typing, Goals as OfGoals, Count}
-use Rattle.grd_program.specs.declared.status.UsageFault.{UsageFault}
+use Rattle.command_words.specs.declared.faults.UsageFault.{UsageFault}
 use Rattle.grd_program.specs.declared.status.LimitFault.TheVariants.{States}
-use Rattle.grd_program.specs.Commands.{PlainJob, Reads, IsUsageFault}
-use Rattle.grd_program.specs.Reports.{IsReportOn}
+use Rattle.command_words.specs.Commands.{PlainJob, Reads, IsUsageFault}
+use Rattle.report_text.specs.Reports.{action_names, cost_report, wcd_report}
 use Rattle.grd_program.specs.Errors.{error_text}
 use Rattle.grd_program.specs.Causes.{HasText, IsQuiet, OnlyRose, FailsDomain, FailsProblem, AreTyped, HasTypingCause, SpellsOnlyGoals, HasOnlyFault, HasFew, HasCountCause}
+
+-- the text is the report of the costs that were found and of a right wcd
+abbrev pub IsWcdReport : PlainTask → List (List ℕ) → List (Option (List ActionId)) → List ℕ → Type 0
+IsWcdReport t names found text = (wcd : Option PlainWitness) × IsRightWcd t [] wcd × (text ≡ wcd_report names found wcd)
+
+-- the text is the report that answers the question with what is right for the goals of this world
+abbrev pub IsReportOn : Question → PlainTyped → List (List PlainGroundAtom) → List ℕ → Type 0
+IsReportOn Costs typed goals text =
+    (found : List (Option (List ActionId))) × AreRight (ground_task typed goals) [] found
+    × (text ≡ cost_report (action_names typed) found)
+IsReportOn OfWcd typed goals text =
+    (found : List (Option (List ActionId))) × AreRight (ground_task typed goals) [] found
+    × IsWcdReport (ground_task typed goals) (action_names typed) found text
 
 -- the three texts spell a world with goals: a domain and a problem that are well typed, and goals over them
 pub record SpellWorld (domain_text problem_text goals_text : List ℕ) (typed : PlainTyped) (goals : List (List PlainGroundAtom)) : Type 0 where

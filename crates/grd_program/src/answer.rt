@@ -4,22 +4,21 @@ ghost use Rattle.strips_model.specs.Common.{AreRight};
 ghost use Rattle.type_check.specs.Typing.{IsTypedTask};
 ghost use Rattle.ground_all.specs.Grounding.{instances, ground_task};
 ghost use Rattle.grd_program.specs.Causes.{IsQuiet, HasFew, HasCountCause};
-ghost use Rattle.grd_program.specs.Reports.{action_names, IsWcdReport, IsReportOn};
-ghost use Rattle.grd_program.specs.Runs.{TakesFiles, IsReportText, IsTextOf, IsAnswerText, ReadsOnly, HasWordsCause, HasReadingCause, HasFilesCause, HasCommandCause, HasInputCause, HasSearchCause, HasAnswerCause, HasTakenFiles, HasTaken, HasPassed};
+ghost use Rattle.report_text.specs.Reports.{action_names};
+ghost use Rattle.grd_program.specs.Runs.{IsWcdReport, IsReportOn, TakesFiles, IsReportText, IsTextOf, IsAnswerText, ReadsOnly, HasWordsCause, HasReadingCause, HasFilesCause, HasCommandCause, HasInputCause, HasSearchCause, HasAnswerCause, HasTakenFiles, HasTaken, HasPassed};
 
-use crate::command::Command;
 use crate::files::goals_of;
-use crate::job::Job;
-use crate::report::{Question, cost_report, wcd_report};
+use crate::question::Question;
 use crate::show::show_text;
 use crate::status::{LimitFault, Refusal, Status};
 use crate::typed::read_typed;
-use crate::words::{WordsFault, read_words};
+use command_words::{Command, Job, WordsFault, read_words};
 use grd_base::{ActionId, GoalId, Limits};
 use grd_io::Shelf;
 use ground_all::{GroundFault, Grounded, ground};
 use optimal_search::{GoalSearchFault, costs};
 use plain_search::{plans_of, wcd};
+use report_text::{cost_report, wcd_report};
 use std::alloc::Global;
 use type_check::{Goal, Typed};
 
@@ -161,7 +160,7 @@ fn report_on(
 
 /// The report that answers the question about the files of a job.
 #[tactic(auto, using(crate::proofs::FileLemmas::reading_files))]
-fn report_text<F: Shelf>(
+fn report_of_files<F: Shelf>(
     alloc: Global,
     shelf: &mut F,
     question: Question,
@@ -197,8 +196,8 @@ fn text_of_job<F: Shelf>(alloc: Global, shelf: &mut F, job: &Job) -> Result<Vec<
     ensures quiet { OnOk result (IsQuiet (F.faults shelf.old) (F.faults shelf.new)) }
 {
     match job.command {
-        Command::Cost => report_text(alloc, shelf, Question::Costs, job),
-        Command::Wcd => report_text(alloc, shelf, Question::Wcd, job),
+        Command::Cost => report_of_files(alloc, shelf, Question::Costs, job),
+        Command::Wcd => report_of_files(alloc, shelf, Question::Wcd, job),
         Command::Show => show_text(alloc, shelf, job),
     }
 }

@@ -2,12 +2,13 @@ ghost use Rattle.std.specs.Prelude.{◌≡◌, ◌++◌, IfOk, OnOk, string_byte
 ghost use Rattle.std.specs.Fmt.{decimal};
 ghost use Rattle.grd_program.specs.Errors.{role_text, usage_text, goals_text, feature_text, place_text, tree_text, pddl_text, kind_text, typing_text, count_text, refusal_text, error_text, IsPlainRefusal, IsPlainStatus};
 
-use crate::report::number_of;
-use crate::status::{LimitFault, Refusal, Status, Target, UsageFault};
+use crate::status::{LimitFault, Refusal, Status, Target};
+use command_words::UsageFault;
 use goal_files::GoalFault;
 use grd_base::{FileRole, OutOfMemory};
 use ground_all::GroundFault;
 use pddl_reader::{Feature, PddlFault, TreeFault};
+use report_text::number_of;
 use std::alloc::Global;
 use std::fmt::Write;
 use type_check::{TypeFault, TypeKind};

@@ -6,8 +6,8 @@ ghost use Rattle.grd_program.specs.Causes.{HasText, HasReadCause, HasDomainCause
 ghost use Rattle.grd_program.specs.Runs.{SpellsOnly, TakesTexts, HasTextsCause};
 ghost use Rattle.pddl_print.specs.Spells.{IsSpelledDomain, IsSpelledProblem};
 
-use crate::job::Job;
 use crate::status::{Refusal, Status};
+use command_words::Job;
 use goal_files::{GoalFault, read_goals};
 use grd_base::FileRole;
 use grd_io::{ReadFault, Shelf, read_whole};

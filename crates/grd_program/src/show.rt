@@ -6,8 +6,8 @@ ghost use Rattle.grd_program.specs.Causes.{IsQuiet};
 ghost use Rattle.grd_program.specs.Runs.{TakesTexts, IsShowText, HasTextsCause};
 
 use crate::files::read_texts;
-use crate::job::Job;
 use crate::status::Status;
+use command_words::Job;
 use grd_base::OutOfMemory;
 use grd_io::Shelf;
 use pddl_print::{print_domain, print_problem};

@@ -1,4 +1,4 @@
-use crate::command::OptionName;
+use command_words::UsageFault;
 use goal_files::GoalFault;
 use grd_base::{FileRole, GoalId, OutOfMemory};
 use ground_all::GroundFault;
@@ -36,24 +36,6 @@ pub enum Refusal {
     Goals(GoalFault),
     /// The world has too many atoms or actions. The fault is never want of memory.
     Count(GroundFault),
-}
-
-/// Why words are refused. A number is the place of a word behind the program's name, from 1.
-#[derive(Clone, Copy, Debug, PartialEq, Eq)]
-pub enum UsageFault {
-    /// There is no word.
-    NoCommand,
-    /// The first word is no command.
-    UnknownCommand,
-    /// The word is no item of the command, or no value.
-    BadItem(u64),
-    /// The word is an option that is given before, with a word behind it, or an item of such an option
-    /// in one word.
-    Repeated(u64),
-    /// An option that the command must have is not given.
-    Missing(OptionName),
-    /// What an option is given is no number of its range.
-    BadNumber(OptionName),
 }
 
 /// Which limit a search met.

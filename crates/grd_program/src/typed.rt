@@ -5,8 +5,8 @@ ghost use Rattle.grd_program.specs.Causes.{IsQuiet, AreTyped, HasTypingCause};
 ghost use Rattle.grd_program.specs.Runs.{TakesTyped, HasTypedCause};
 
 use crate::files::{Texts, read_texts};
-use crate::job::Job;
 use crate::status::{Refusal, Status};
+use command_words::Job;
 use grd_io::Shelf;
 use pddl_reader::{Domain, Problem};
 use std::alloc::Global;

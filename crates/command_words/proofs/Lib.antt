@@ -1,0 +1,4 @@
+pub mod WordsTable
+pub mod WordsItems
+pub mod WordsGiven
+pub mod WordsOnce

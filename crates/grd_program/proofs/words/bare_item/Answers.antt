@@ -1,6 +1,0 @@
-use Rattle.std.proofs.Common.{inl}
-use Rattle.grd_program.proofs.WordsTable.{begins_none_bare}
-use Rattle.grd_program.proofs.words.bare_item.Goals as goal
-
-pub returns-in_default : goal.returns-in_default
-returns-in_default c = inl (begins_none_bare c.args.command c.args.word.now c.requires c.in_default.ensures)

@@ -1,0 +1,195 @@
+// The limits: of the bytes of a file, of the atoms and actions of a world, and of states.
+use crate::runs::{NO_FAILURE, Wanted, done, ends, expect_run, run_on};
+use crate::samples::{
+    COST, FORK, FORK_START, PAIRS, SHOW, TRIPLES, Texts, all_switches, fork, many_objects, padded,
+    switches, traps,
+};
+use std::alloc::Global;
+use std::process::Abort;
+use std::test::Fail;
+
+/// `cost` over a domain and so many objects, with a goal that holds at the start, ends as is wanted.
+fn expect_world(
+    rt: &impl Abort,
+    alloc: Global,
+    domain: &str,
+    count: u32,
+    wanted: Wanted<'_>,
+) -> Result<(), Fail> {
+    let problem = many_objects(alloc, count)?;
+    let texts = Texts {
+        domain,
+        problem: problem.as_str(),
+        goals: "(q)",
+    };
+    expect_run(rt, alloc, COST, texts, wanted)
+}
+
+#[test]
+fn worlds_are_refused_by_their_counts(rt: HostRuntime) -> Result<(), Fail> {
+    for (domain, count, code, out, err) in [
+        (PAIRS, 55, 0, "goals 1\ngoal 1 cost 0\n", ""),
+        (PAIRS, 56, 1, "", "grd: 3136 atoms, limit 3072\n"),
+        (TRIPLES, 101, 0, "goals 1\ngoal 1 cost 0\n", ""),
+        (TRIPLES, 102, 1, "", "grd: 1061208 actions, limit 1048576\n"),
+    ] {
+        let wanted = Wanted { code, out, err };
+        expect_world(&rt, rt.alloc(), domain, count, wanted)?;
+    }
+    Ok(())
+}
+
+/// Words over fork and one goal end as is wanted, where spaces behind the domain and the goal fill up
+/// their files to so many bytes.
+fn expect_padded(
+    rt: &impl Abort,
+    alloc: Global,
+    words: &str,
+    domain_bytes: usize,
+    goals_bytes: usize,
+    wanted: Wanted<'_>,
+) -> Result<(), Fail> {
+    let domain = padded(alloc, FORK, ' ', domain_bytes)?;
+    let goals = padded(alloc, "(at1)", ' ', goals_bytes)?;
+    let texts = Texts {
+        domain: domain.as_str(),
+        problem: FORK_START,
+        goals: goals.as_str(),
+    };
+    expect_run(rt, alloc, words, texts, wanted)
+}
+
+const FORK_SHOWN: &str = "(define (domain fork)
+(:requirements :strips :typing)
+(:predicates (at0) (at1) (at2) (atl) (atr))
+(:action a
+:parameters ()
+:precondition (and (at0))
+:effect (and (at1) (not (at0))))
+(:action b
+:parameters ()
+:precondition (and (at1))
+:effect (and (at2) (not (at1))))
+(:action l
+:parameters ()
+:precondition (and (at2))
+:effect (and (atl) (not (at2))))
+(:action r
+:parameters ()
+:precondition (and (at2))
+:effect (and (atr) (not (at2))))
+)
+(define (problem p)
+(:domain fork)
+(:init (at0))
+(:goal (and)))
+";
+
+#[test]
+fn files_have_at_most_2_to_the_20_bytes(rt: HostRuntime) -> Result<(), Fail> {
+    let (most, more) = (1usize << 20, (1usize << 20) + 1);
+    let cost = "goals 1\ngoal 1 cost 1 (a)\n";
+    for (words, domain_bytes, goals_bytes, code, out, err) in [
+        (COST, most, most, 0, cost, ""),
+        (SHOW, most, most, 0, FORK_SHOWN, ""),
+        (
+            COST,
+            0,
+            more,
+            1,
+            "",
+            "grd: goals: longer than 1048576 bytes\n",
+        ),
+        (
+            COST,
+            more,
+            more,
+            1,
+            "",
+            "grd: domain: longer than 1048576 bytes\n",
+        ),
+        (
+            SHOW,
+            more,
+            more,
+            1,
+            "",
+            "grd: domain: longer than 1048576 bytes\n",
+        ),
+    ] {
+        let wanted = Wanted { code, out, err };
+        expect_padded(&rt, rt.alloc(), words, domain_bytes, goals_bytes, wanted)?;
+    }
+    Ok(())
+}
+
+/// The exit status of a command over fork with a limit on states, and what it tells.
+fn end_of(alloc: Global, command: &str, goals: &str, states: u32) -> Result<(u8, String), Fail> {
+    let words = format!(in alloc;
+        "{command} --domain d --problem p --goals g --max-states {states}"
+    )?;
+    let outcome = run_on(alloc, words.as_str(), fork(goals), NO_FAILURE)?;
+    Ok((outcome.code, outcome.err))
+}
+
+#[test]
+fn goal_that_meets_the_limit_is_told(rt: HostRuntime) -> Result<(), Fail> {
+    for (command, goals, states, line) in [
+        (
+            "cost",
+            "(atl)",
+            1,
+            "grd: limit: more than 1 states near goal 1\n",
+        ),
+        (
+            "cost",
+            "(at0)\n(atl)",
+            1,
+            "grd: limit: more than 1 states near goal 2\n",
+        ),
+        ("cost", "(at0)\n(atl)", 5, ""),
+        // No state but the first has a level for both atoms.
+        ("cost", "(at0), (atl)\n(at0)", 1, ""),
+        ("wcd", "(at0)\n(atl)", 5, ""),
+        // Five states are within the three steps of its plan, and `cost` finds it with fewer.
+        (
+            "wcd",
+            "(at0)\n(atl)",
+            4,
+            "grd: limit: more than 4 states near goal 2\n",
+        ),
+    ] {
+        let (code, told) = end_of(rt.alloc(), command, goals, states)?;
+        assert_eq!(rt; told.as_str(), line, "{command} {goals} {states}");
+        assert_eq!(rt; code, if line.is_empty() { 0 } else { 4 });
+    }
+    Ok(())
+}
+
+#[test]
+fn limit_that_holds_where_none_is_given_is_told(rt: HostRuntime) -> Result<(), Fail> {
+    let domain = switches(rt.alloc())?;
+    let all = all_switches(rt.alloc())?;
+    let goals = format!(in rt.alloc(); "(never)\n(p0)(p16)\n{all}\n")?;
+    let texts = Texts {
+        domain: domain.as_str(),
+        problem: "(define (problem p) (:domain switches) (:init) (:goal (and <hypothesis>)))",
+        goals: goals.as_str(),
+    };
+    let wanted = ends(4, "grd: limit: more than 100000 states near goal 3\n");
+    expect_run(&rt, rt.alloc(), COST, texts, wanted)
+}
+
+// The states from which nothing leads on have no level.
+#[test]
+fn dead_ends_are_not_counted(rt: HostRuntime) -> Result<(), Fail> {
+    let domain = traps(rt.alloc())?;
+    let texts = Texts {
+        domain: domain.as_str(),
+        problem: "(define (problem p) (:domain traps) (:init (at0)) (:goal (and <hypothesis>)))",
+        goals: "(atl)",
+    };
+    let words = "cost --domain d --problem p --goals g --max-states 4";
+    let wanted = done("goals 1\ngoal 1 cost 3 (a) (b) (l)\n");
+    expect_run(&rt, rt.alloc(), words, texts, wanted)
+}

@@ -1,0 +1,265 @@
+// The texts of the tasks that tests run over, and the words.
+use std::alloc::{AllocError, Global};
+use std::fmt::Write;
+use std::test::Fail;
+
+/// The texts of the three files.
+#[derive(Clone, Copy)]
+pub(crate) struct Texts<'a> {
+    pub(crate) domain: &'a str,
+    pub(crate) problem: &'a str,
+    pub(crate) goals: &'a str,
+}
+
+pub(crate) const COST: &str = "cost --domain d --problem p --goals g";
+
+pub(crate) const WCD: &str = "wcd --domain d --problem p --goals g";
+
+pub(crate) const SHOW: &str = "show --domain d --problem p";
+
+pub(crate) const FORK: &str = "(define (domain fork)
+(:predicates (at0) (at1) (at2) (atl) (atr))
+(:action a :parameters () :precondition (at0) :effect (and (at1) (not (at0))))
+(:action b :parameters () :precondition (at1) :effect (and (at2) (not (at1))))
+(:action l :parameters () :precondition (at2) :effect (and (atl) (not (at2))))
+(:action r :parameters () :precondition (at2) :effect (and (atr) (not (at2)))))";
+
+pub(crate) const FORK_START: &str =
+    "(define (problem p) (:domain fork) (:init (at0)) (:goal (and <HYPOTHESIS>)))";
+
+/// Fork with these goals.
+pub(crate) fn fork(goals: &str) -> Texts<'_> {
+    Texts {
+        domain: FORK,
+        problem: FORK_START,
+        goals,
+    }
+}
+
+pub(crate) const KEEP: &str = "; upper case, tabs and carriage returns\r
+(DEFINE\t(domain K)\r
+(:predicates (p) (q)) ; (r)\r
+(:action T :parameters () :precondition (p) :effect (and (q) (not (p)) (p))))";
+
+pub(crate) const KEEP_START: &str =
+    "(define (problem z) (:domain k) (:init (P)) (:goal (and <hypothesis>)))";
+
+/// Two steps up, or one jump, whose action comes last.
+pub(crate) const LADDER: &str = "(define (domain ladder) (:predicates (low) (middle) (high))
+(:action climb :parameters () :precondition (low) :effect (and (middle) (not (low))))
+(:action reach :parameters () :precondition (middle) :effect (and (high) (not (middle))))
+(:action jump :parameters () :precondition (and (low)) :effect (and (high) (not (low)))))";
+
+pub(crate) const LADDER_START: &str =
+    "(define (problem p) (:domain ladder) (:init (low)) (:goal (and <hypothesis>)))";
+
+/// A door that is open and one that is shut, neither of which any action changes.
+pub(crate) const DOORS: &str = "(define (domain doors)
+(:predicates (open) (shut) (outside) (inside))
+(:action break :parameters () :precondition (and (outside) (shut)) :effect (inside))
+(:action enter :parameters () :precondition (and (open) (outside))
+:effect (and (inside) (not (outside)) (inside))))";
+
+pub(crate) const DOORS_START: &str =
+    "(define (problem p) (:domain doors) (:init (outside) (open) (outside))
+(:goal (and <hypothesis>)))";
+
+/// Sections and parts in another order, some missing, and conditions that are nested or empty.
+pub(crate) const LOOSE: &str = "(define (domain loose) (:requirements :typing :strips)
+(:action top :effect (and () (and (high) (not (middle)))) :precondition (and (and (middle)) ()))
+(:action rest)
+(:action start :effect (middle))
+(:predicates (middle) (high)))";
+
+pub(crate) const LOOSE_START: &str =
+    "(define (problem p) (:init) (:requirements :strips) (:domain loose))";
+
+pub(crate) const GRID: &str = "(define (domain grid)
+(:requirements :strips :typing)
+(:types cell - object)
+(:predicates (at ?a - cell) (connected ?a - cell ?b - cell))
+(:action move
+:parameters (?a - cell ?b - cell)
+:precondition (and (at ?a) (connected ?a ?b))
+:effect (and (not (at ?a)) (at ?b)))
+)
+";
+
+/// The rows of the grid, and its columns.
+const SIDE: u32 = 5;
+
+/// Writes the neighbours of a cell: above, below, left and right.
+fn push_neighbours(text: &mut String, row: u32, column: u32) -> Result<(), Fail> {
+    if row > 1 {
+        write!(text, " (connected c{row}-{column} c{}-{column})", row - 1)?;
+    }
+    if row < SIDE {
+        write!(text, " (connected c{row}-{column} c{}-{column})", row + 1)?;
+    }
+    if column > 1 {
+        write!(text, " (connected c{row}-{column} c{row}-{})", column - 1)?;
+    }
+    if column < SIDE {
+        write!(text, " (connected c{row}-{column} c{row}-{})", column + 1)?;
+    }
+    Ok(())
+}
+
+/// The problem of the grid, whose cells stand row by row.
+pub(crate) fn grid_start(alloc: Global) -> Result<String, Fail> {
+    let mut cells = String::new(alloc);
+    let mut init = String::from_str(alloc, "(at c3-1)")?;
+    for row in 1..SIDE + 1 {
+        for column in 1..SIDE + 1 {
+            write!(cells, " c{row}-{column} - cell")?;
+            push_neighbours(&mut init, row, column)?;
+        }
+    }
+    Ok(format!(in alloc;
+        "(define (problem made)\n(:domain grid)\n(:objects{cells})\n(:init {init})\n(:goal (and)))\n"
+    )?)
+}
+
+/// Types, constants, parameters of two types, and names in upper case.
+pub(crate) const ROOMS: &str = "(DEFINE (domain Rooms) (:requirements :typing) ; two kinds of places
+(:constants Lobby - hall) (:types room hall - place thing)
+(:action Move :parameters (?x - thing ?from ?to - place)
+:effect (and (not (at ?x ?from)) (and (at ?x ?to) (at ?x LOBBY))) :precondition (at ?x ?from))
+(:predicates (at ?x - (either thing robot) ?p - place) (free)))";
+
+pub(crate) const ROOMS_SHOWN: &str = "(define (domain rooms)
+(:requirements :strips :typing)
+(:types room - place hall - place thing - object)
+(:constants lobby - hall)
+(:predicates (at ?x - (either thing robot) ?p - place) (free))
+(:action move
+:parameters (?x - thing ?from - place ?to - place)
+:precondition (and (at ?x ?from))
+:effect (and (not (at ?x ?from)) (at ?x ?to) (at ?x lobby)))
+)
+";
+
+pub(crate) const ROOMS_START: &str =
+    "(define (problem P1) (:init (at a lobby) (free) (free)) (:goal (at a r))
+(:objects a - thing B r - room) (:domain rooms))";
+
+pub(crate) const ROOMS_START_SHOWN: &str = "(define (problem p1)
+(:domain rooms)
+(:objects a - thing b - room r - room)
+(:init (at a lobby) (free) (free))
+(:goal (and)))
+";
+
+/// The example whose texts are the shortest that are not canonical.
+pub(crate) const SHORT: &str =
+    "(DEFINE (domain K) (:predicates (p) (q)) (:action T :precondition (p) :effect (and (q) (not (p)) (p)))) ; end";
+
+pub(crate) const SHORT_START: &str = "(define (problem z) (:domain k) (:init (P)))";
+
+pub(crate) const SHORT_SHOWN: &str = "(define (domain k)
+(:requirements :strips :typing)
+(:predicates (p) (q))
+(:action t
+:parameters ()
+:precondition (and (p))
+:effect (and (q) (not (p)) (p)))
+)
+(define (problem z)
+(:domain k)
+(:init (p))
+(:goal (and)))
+";
+
+/// A domain that is ill typed, and so large that it is refused over 102 objects.
+pub(crate) const ILL_TYPED: &str =
+    "(define (domain many) (:constants c - t) (:predicates (p ?x ?y) (q))
+(:action a :parameters (?x ?y ?z) :effect (p ?x ?y)))";
+
+/// With an atom for each two objects, and an action for each three.
+pub(crate) const LARGE: &str = "(define (domain many) (:predicates (p ?x ?y) (q))
+(:action a :parameters (?x ?y ?z) :effect (p ?x ?y)))";
+
+/// With an atom for each two objects, and an action for each.
+pub(crate) const PAIRS: &str = "(define (domain many) (:predicates (p ?x ?y) (q))
+(:action a :parameters (?x) :effect (p ?x ?x)))";
+
+/// With one atom, and an action for each three objects.
+pub(crate) const TRIPLES: &str = "(define (domain many) (:predicates (p) (q))
+(:action a :parameters (?x ?y ?z) :effect (p)))";
+
+/// A problem with so many objects, from o0 on.
+pub(crate) fn many_objects(alloc: Global, count: u32) -> Result<String, Fail> {
+    let mut objects = String::new(alloc);
+    for i in 0..count {
+        write!(objects, " o{i}")?;
+    }
+    Ok(format!(in alloc; "(define (problem p) (:domain many) (:objects{objects}) (:init (q)))")?)
+}
+
+/// The text, so many times.
+pub(crate) fn repeated(alloc: Global, text: &str, count: usize) -> Result<String, AllocError> {
+    let mut whole = String::new(alloc);
+    for _ in 0..count {
+        whole.push_str(text)?;
+    }
+    Ok(whole)
+}
+
+/// The text with a character of one byte behind it, again and again, of so many bytes.
+pub(crate) fn padded(
+    alloc: Global,
+    text: &str,
+    filler: char,
+    bytes: usize,
+) -> Result<String, AllocError> {
+    let mut padded = String::from_str(alloc, text)?;
+    for _ in text.len()..bytes {
+        padded.push(filler)?;
+    }
+    Ok(padded)
+}
+
+/// A domain of 17 atoms that can each be made true by itself, so that 2^17 states are reached.
+pub(crate) fn switches(alloc: Global) -> Result<String, Fail> {
+    let mut actions = String::new(alloc);
+    for i in 0..17u32 {
+        write!(
+            actions,
+            "(:action a{i} :parameters () :precondition (and) :effect (p{i}))"
+        )?;
+    }
+    let predicates = all_switches(alloc)?;
+    Ok(format!(in alloc;
+        "(define (domain switches) (:predicates (never) {predicates}) {actions})"
+    )?)
+}
+
+/// The 17 atoms.
+pub(crate) fn all_switches(alloc: Global) -> Result<String, Fail> {
+    let mut atoms = String::new(alloc);
+    for i in 0..17u32 {
+        write!(atoms, "(p{i})")?;
+    }
+    Ok(atoms)
+}
+
+/// Fork with 20 more actions, each from its start to a place of its own, from which nothing leads on.
+pub(crate) fn traps(alloc: Global) -> Result<String, Fail> {
+    let mut predicates = String::new(alloc);
+    let mut actions = String::new(alloc);
+    for i in 1..21u32 {
+        write!(predicates, " (e{i})")?;
+        write!(
+            actions,
+            "(:action t{i} :parameters () :precondition (at0) :effect (and (e{i}) (not (at0))))"
+        )?;
+    }
+    Ok(format!(in alloc;
+        "(define (domain traps)
+(:predicates (at0) (at1) (at2) (atl) (atr){predicates})
+(:action a :parameters () :precondition (at0) :effect (and (at1) (not (at0))))
+(:action b :parameters () :precondition (at1) :effect (and (at2) (not (at1))))
+(:action l :parameters () :precondition (at2) :effect (and (atl) (not (at2))))
+(:action r :parameters () :precondition (at2) :effect (and (atr) (not (at2)))){actions})"
+    )?)
+}

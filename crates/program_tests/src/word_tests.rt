@@ -1,0 +1,151 @@
+// The words of the program: which fault of them is told, and in which forms they are taken.
+use crate::runs::{done, ends, expect_run, expect_without_files, words_of};
+use crate::samples::{COST, fork};
+use command_words::{Command, read_words};
+use std::alloc::Global;
+use std::process::Abort;
+use std::test::Fail;
+
+#[test]
+fn first_fault_of_the_words_is_told(rt: HostRuntime) -> Result<(), Fail> {
+    for (words, fault) in [
+        ("", "no command"),
+        ("solve --domain d", "unknown command"),
+        ("--help", "unknown command"),
+        ("COST --domain d", "unknown command"),
+        ("cost --help", "word 2"),
+        ("wcd --", "word 2"),
+        ("cost --domain d --version --problem p", "word 4"),
+        ("cost stray --domain d", "word 2"),
+        ("cost --domain d stray", "word 4"),
+        ("cost --DOMAIN d", "word 2"),
+        ("cost --budget 1 --domain d", "word 2"),
+        ("wcd --budget=1", "word 2"),
+        ("cost --domain", "word 2"),
+        ("cost --domain=d --problem", "word 3"),
+        ("cost --domain  --problem p", "word 3"),
+        ("cost --domain= --problem p", "word 2"),
+        ("cost --domain -d", "word 3"),
+        ("cost --domain --problem p", "word 3"),
+        ("cost --goals g --domain=-d", "word 4"),
+        ("cost --domain d --domain e", "repeated word 4"),
+        ("cost --domain d --domain=e", "repeated word 4"),
+        ("cost --domain=d --domain e", "repeated word 3"),
+        ("cost --domain=d --domain=e", "repeated word 3"),
+        ("cost --domain d --domain -", "repeated word 4"),
+        ("cost --domain d --domain=-", "word 4"),
+        ("cost --domain d --domain", "word 4"),
+        ("cost --domain d --domain e stray", "repeated word 4"),
+        ("wcd", "missing --domain"),
+        ("cost --domain d", "missing --problem"),
+        ("cost --goals g --domain=d", "missing --problem"),
+        ("show --domain d", "missing --problem"),
+        ("show --domain d --goals g", "word 4"),
+        (
+            "wcd --problem p --max-states 0 --domain d",
+            "missing --goals",
+        ),
+        ("cost --domain d --max-states 0 stray", "word 6"),
+    ] {
+        let line = format!(in rt.alloc(); "grd: usage: {fault}\n")?;
+        expect_without_files(&rt, rt.alloc(), words, ends(2, line.as_str()))?;
+    }
+    Ok(())
+}
+
+/// `cost` with a number, over no files, ends with the line.
+fn expect_number(
+    rt: &impl Abort,
+    alloc: Global,
+    number: &str,
+    code: u8,
+    line: &str,
+) -> Result<(), Fail> {
+    let words = format!(in alloc; "{COST} --max-states={number}")?;
+    expect_without_files(rt, alloc, words.as_str(), ends(code, line))
+}
+
+#[test]
+fn numbers_are_1_to_10_digits_in_their_range(rt: HostRuntime) -> Result<(), Fail> {
+    let refused = "grd: usage: number --max-states\n";
+    let taken = "grd: domain: read failed\n";
+    for (number, code, line) in [
+        ("0", 2, refused),
+        ("200001", 2, refused),
+        ("00000000001", 2, refused),
+        ("12345678901", 2, refused),
+        ("18446744073709551617", 2, refused),
+        ("1x", 2, refused),
+        ("+1", 2, refused),
+        ("1_000", 2, refused),
+        ("0x1", 2, refused),
+        ("1.0", 2, refused),
+        ("1", 5, taken),
+        ("200000", 5, taken),
+        ("0000000001", 5, taken),
+        ("0000200000", 5, taken),
+    ] {
+        expect_number(&rt, rt.alloc(), number, code, line)?;
+    }
+    Ok(())
+}
+
+/// The words of `cost` in several orders and forms.
+const ORDERS: [&str; 3] = [
+    "cost --goals g --problem p --domain d",
+    "cost --max-states 5 --problem=p --goals g --domain=d",
+    "cost --goals=g --domain=d --max-states=200000 --problem=p",
+];
+
+#[test]
+fn items_are_taken_in_any_order_and_form(rt: HostRuntime) -> Result<(), Fail> {
+    for words in ORDERS {
+        let wanted = done("goals 1\ngoal 1 cost 1 (a)\n");
+        expect_run(&rt, rt.alloc(), words, fork("(at1)"), wanted)?;
+    }
+    Ok(())
+}
+
+#[test]
+fn items_in_any_order_and_form_name_files(rt: HostRuntime) -> Result<(), Fail> {
+    for words in ORDERS {
+        let wanted = ends(5, "grd: domain: read failed\n");
+        expect_without_files(&rt, rt.alloc(), words, wanted)?;
+    }
+    Ok(())
+}
+
+/// The command of the words, the names of its files, and its limit on states.
+fn job_in(alloc: Global, words: &str) -> Result<(Command, String, u32), Fail> {
+    let words = words_of(alloc, words)?;
+    let job = read_words(alloc, &words)?;
+    let names = format!(in alloc; "{} {} {}", job.domain, job.problem, job.goals)?;
+    Ok((job.command, names, job.limits.states))
+}
+
+#[test]
+fn jobs_are_read(rt: HostRuntime) -> Result<(), Fail> {
+    for (words, command, names, states) in [
+        (COST, Command::Cost, "d p g", 100_000),
+        (
+            "wcd --max-states 0000000005 --problem=p --goals g --domain=d",
+            Command::Wcd,
+            "d p g",
+            5,
+        ),
+        (
+            "show --problem q --domain=e",
+            Command::Show,
+            "e q ",
+            100_000,
+        ),
+    ] {
+        let (of, named, limit) = job_in(rt.alloc(), words)?;
+        assert_eq!(rt;
+            (of, named.as_str(), limit),
+            (command, names, states),
+            "{words}"
+        );
+    }
+    Ok(())
+}
