@@ -16,6 +16,3 @@
 mod store;
 
 pub use store::StateStore;
-
-#[cfg(test)]
-mod tests;

@@ -16,6 +16,3 @@ mod needs;
 mod table;
 
 pub use table::SuccTable;
-
-#[cfg(test)]
-mod tests;
