@@ -11,16 +11,16 @@ use Rattle.cost_certificate.specs.declared.found.Verdict.TheVariants.{No}
 use Rattle.cost_certificate.specs.Found.{PlainCost}
 use Rattle.cost_certificate.specs.Rows.{PlainRow}
 use Rattle.cost_certificate.specs.Tables.{IsRowOver}
-use Rattle.observation_compile.specs.Observed.{observed_task}
-use Rattle.recognise.specs.Verdicts.{IsRightVerdict}
+use Rattle.strips_model.specs.Observed.{observed_task}
+use Rattle.cost_certificate.specs.Verdicts.{plain_verdict, IsRightVerdict}
 
 -- the verdicts are right for goals of these costs
 abbrev pub AreRight : PlainTask → List ActionId → List PlainCost → List Verdict → Type 0
 AreRight t os costs verdicts = (k : ℕ) (x : PlainCost) (verdict : Verdict) → slice_get costs k ≡ Some x → slice_get verdicts k ≡ Some verdict
-    → IsRightVerdict t os (record { 0 = k }) x.cost verdict
+    → IsRightVerdict t os (record { 0 = k }) x.cost (plain_verdict verdict)
 
 -- the rows of a right verdict have atoms of the observed task alone
-rows_over : (t : PlainTask) (os : List ActionId) (g : GoalId) (least : Option ℕ) (table : List PlainRow) → IsRightVerdict t os g least (No table) → All (IsRowOver (observed_task t os)) table
+rows_over : (t : PlainTask) (os : List ActionId) (g : GoalId) (least : Option ℕ) (table : List PlainRow) → IsRightVerdict t os g least (plain_verdict (No table)) → All (IsRowOver (observed_task t os)) table
 rows_over t os g None table is = subst (λ (xs : List PlainRow). All (IsRowOver (observed_task t os)) xs) (sym is.1) (All-nil (IsRowOver (observed_task t os)))
 rows_over t os g (Some c) table is = is.1.2
 

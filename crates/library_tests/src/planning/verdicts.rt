@@ -2,7 +2,7 @@ ghost use Rattle.std.specs.Prelude.{◌≡◌, ℕ, ◌<◌, ◌≤◌, List, le
 ghost use Rattle.cost_certificate.specs.declared.found.Verdict.{Verdict};
 ghost use Rattle.cost_certificate.specs.Rows.{PlainRow};
 ghost use Rattle.cost_certificate.specs.Tables.{IsRowOver};
-ghost use Rattle.observation_compile.specs.Observed.{observed_task};
+ghost use Rattle.strips_model.specs.Observed.{observed_task};
 
 use crate::samples::{FORK_OF_THREE, task};
 use cost_certificate::{Table, Verdict, valid_table};
