@@ -123,45 +123,59 @@ fn files_have_at_most_2_to_the_20_bytes(rt: HostRuntime) -> Result<(), Fail> {
     Ok(())
 }
 
-/// The exit status of a command over fork with a limit on states, and what it tells.
-fn end_of(alloc: Global, command: &str, goals: &str, states: u32) -> Result<(u8, String), Fail> {
+/// A command over fork with a limit on states ends with the code, and tells this.
+fn expect_end(
+    rt: &impl Abort,
+    alloc: Global,
+    command: &str,
+    goals: &str,
+    states: u32,
+    code: u8,
+    line: &str,
+) -> Result<(), Fail> {
     let words = format!(in alloc;
         "{command} --domain d --problem p --goals g --max-states {states}"
     )?;
     let outcome = run_on(alloc, words.as_str(), fork(goals), NO_FAILURE)?;
-    Ok((outcome.code, outcome.err))
+    assert_eq!(rt;
+        (outcome.code, outcome.err.as_str()),
+        (code, line),
+        "{words} {goals}"
+    );
+    Ok(())
 }
 
 #[test]
 fn goal_that_meets_the_limit_is_told(rt: HostRuntime) -> Result<(), Fail> {
-    for (command, goals, states, line) in [
+    for (command, goals, states, code, line) in [
         (
             "cost",
             "(atl)",
             1,
+            4,
             "grd: limit: more than 1 states near goal 1\n",
         ),
         (
             "cost",
             "(at0)\n(atl)",
             1,
+            4,
             "grd: limit: more than 1 states near goal 2\n",
         ),
-        ("cost", "(at0)\n(atl)", 5, ""),
+        ("cost", "(at0)\n(atl)", 5, 0, ""),
         // No state but the first has a level for both atoms.
-        ("cost", "(at0), (atl)\n(at0)", 1, ""),
-        ("wcd", "(at0)\n(atl)", 5, ""),
+        ("cost", "(at0), (atl)\n(at0)", 1, 0, ""),
+        ("wcd", "(at0)\n(atl)", 5, 0, ""),
         // Five states are within the three steps of its plan, and `cost` finds it with fewer.
         (
             "wcd",
             "(at0)\n(atl)",
             4,
+            4,
             "grd: limit: more than 4 states near goal 2\n",
         ),
     ] {
-        let (code, told) = end_of(rt.alloc(), command, goals, states)?;
-        assert_eq!(rt; told.as_str(), line, "{command} {goals} {states}");
-        assert_eq!(rt; code, if line.is_empty() { 0 } else { 4 });
+        expect_end(&rt, rt.alloc(), command, goals, states, code, line)?;
     }
     Ok(())
 }

@@ -53,11 +53,17 @@ pub(crate) struct Outcome {
     pub(crate) err: String,
 }
 
+/// One word more.
+fn push_word(alloc: Global, words: &mut Vec<String>, word: &str) -> Result<(), AllocError> {
+    words.push(String::from_str(alloc, word)?)?;
+    Ok(())
+}
+
 /// The words of a line. Each space ends a word, so that two spaces have an empty word between them.
 pub(crate) fn words_of(alloc: Global, line: &str) -> Result<Vec<String>, AllocError> {
     let mut words = Vec::new(alloc);
     for word in line.split_terminator(' ') {
-        words.push(String::from_str(alloc, word)?)?;
+        push_word(alloc, &mut words, word)?;
     }
     Ok(words)
 }
@@ -118,9 +124,8 @@ pub(crate) fn run_on(
 
 /// The run ended as it is to end. A failure names the case.
 fn expect(rt: &impl Abort, case: &str, outcome: &Outcome, wanted: Wanted<'_>) {
-    assert_eq!(rt; outcome.out.as_str(), wanted.out, "{case}");
-    assert_eq!(rt; outcome.err.as_str(), wanted.err, "{case}");
-    assert_eq!(rt; outcome.code, wanted.code, "{case}");
+    let found = (outcome.code, outcome.out.as_str(), outcome.err.as_str());
+    assert_eq!(rt; found, (wanted.code, wanted.out, wanted.err), "{case}");
 }
 
 /// Words over the files d, p and g end as is wanted.

@@ -90,17 +90,15 @@ const SIDE: u32 = 5;
 
 /// Writes the neighbours of a cell: above, below, left and right.
 fn push_neighbours(text: &mut String, row: u32, column: u32) -> Result<(), Fail> {
-    if row > 1 {
-        write!(text, " (connected c{row}-{column} c{}-{column})", row - 1)?;
-    }
-    if row < SIDE {
-        write!(text, " (connected c{row}-{column} c{}-{column})", row + 1)?;
-    }
-    if column > 1 {
-        write!(text, " (connected c{row}-{column} c{row}-{})", column - 1)?;
-    }
-    if column < SIDE {
-        write!(text, " (connected c{row}-{column} c{row}-{})", column + 1)?;
+    for (to_row, to_column) in [
+        (row.saturating_sub(1), column),
+        (row.saturating_add(1), column),
+        (row, column.saturating_sub(1)),
+        (row, column.saturating_add(1)),
+    ] {
+        if 1 <= to_row && to_row <= SIDE && 1 <= to_column && to_column <= SIDE {
+            write!(text, " (connected c{row}-{column} c{to_row}-{to_column})")?;
+        }
     }
     Ok(())
 }

@@ -6,49 +6,55 @@ use std::alloc::Global;
 use std::process::Abort;
 use std::test::Fail;
 
+/// Words, and what is told of them.
+const FAULTY_WORDS: &str = "\
+|no command\n\
+solve --domain d|unknown command\n\
+--help|unknown command\n\
+COST --domain d|unknown command\n\
+cost --help|word 2\n\
+wcd --|word 2\n\
+cost --domain d --version --problem p|word 4\n\
+cost stray --domain d|word 2\n\
+cost --domain d stray|word 4\n\
+cost --DOMAIN d|word 2\n\
+cost --budget 1 --domain d|word 2\n\
+wcd --budget=1|word 2\n\
+cost --domain|word 2\n\
+cost --domain=d --problem|word 3\n\
+cost --domain  --problem p|word 3\n\
+cost --domain= --problem p|word 2\n\
+cost --domain -d|word 3\n\
+cost --domain --problem p|word 3\n\
+cost --goals g --domain=-d|word 4\n\
+cost --domain d --domain e|repeated word 4\n\
+cost --domain d --domain=e|repeated word 4\n\
+cost --domain=d --domain e|repeated word 3\n\
+cost --domain=d --domain=e|repeated word 3\n\
+cost --domain d --domain -|repeated word 4\n\
+cost --domain d --domain=-|word 4\n\
+cost --domain d --domain|word 4\n\
+cost --domain d --domain e stray|repeated word 4\n\
+wcd|missing --domain\n\
+cost --domain d|missing --problem\n\
+cost --goals g --domain=d|missing --problem\n\
+show --domain d|missing --problem\n\
+show --domain d --goals g|word 4\n\
+wcd --problem p --max-states 0 --domain d|missing --goals\n\
+cost --domain d --max-states 0 stray|word 6\n\
+";
+
+/// What is told of words, which stand in one line with a bar before it.
+fn expect_fault(rt: &impl Abort, alloc: Global, case: &str) -> Result<(), Fail> {
+    let (words, fault) = case.split_once('|').ok_or("a bar")?;
+    let line = format!(in alloc; "grd: usage: {fault}\n")?;
+    expect_without_files(rt, alloc, words, ends(2, line.as_str()))
+}
+
 #[test]
 fn first_fault_of_the_words_is_told(rt: HostRuntime) -> Result<(), Fail> {
-    for (words, fault) in [
-        ("", "no command"),
-        ("solve --domain d", "unknown command"),
-        ("--help", "unknown command"),
-        ("COST --domain d", "unknown command"),
-        ("cost --help", "word 2"),
-        ("wcd --", "word 2"),
-        ("cost --domain d --version --problem p", "word 4"),
-        ("cost stray --domain d", "word 2"),
-        ("cost --domain d stray", "word 4"),
-        ("cost --DOMAIN d", "word 2"),
-        ("cost --budget 1 --domain d", "word 2"),
-        ("wcd --budget=1", "word 2"),
-        ("cost --domain", "word 2"),
-        ("cost --domain=d --problem", "word 3"),
-        ("cost --domain  --problem p", "word 3"),
-        ("cost --domain= --problem p", "word 2"),
-        ("cost --domain -d", "word 3"),
-        ("cost --domain --problem p", "word 3"),
-        ("cost --goals g --domain=-d", "word 4"),
-        ("cost --domain d --domain e", "repeated word 4"),
-        ("cost --domain d --domain=e", "repeated word 4"),
-        ("cost --domain=d --domain e", "repeated word 3"),
-        ("cost --domain=d --domain=e", "repeated word 3"),
-        ("cost --domain d --domain -", "repeated word 4"),
-        ("cost --domain d --domain=-", "word 4"),
-        ("cost --domain d --domain", "word 4"),
-        ("cost --domain d --domain e stray", "repeated word 4"),
-        ("wcd", "missing --domain"),
-        ("cost --domain d", "missing --problem"),
-        ("cost --goals g --domain=d", "missing --problem"),
-        ("show --domain d", "missing --problem"),
-        ("show --domain d --goals g", "word 4"),
-        (
-            "wcd --problem p --max-states 0 --domain d",
-            "missing --goals",
-        ),
-        ("cost --domain d --max-states 0 stray", "word 6"),
-    ] {
-        let line = format!(in rt.alloc(); "grd: usage: {fault}\n")?;
-        expect_without_files(&rt, rt.alloc(), words, ends(2, line.as_str()))?;
+    for case in FAULTY_WORDS.lines() {
+        expect_fault(&rt, rt.alloc(), case)?;
     }
     Ok(())
 }
