@@ -2,3 +2,4 @@ mod FilingLemmas
 mod WaveLemmas
 pub mod LevelLaws
 pub mod FamilyLaws
+mod JoinLemmas

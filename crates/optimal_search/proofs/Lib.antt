@@ -8,3 +8,4 @@ mod KeptLemmas
 mod TakenLemmas
 mod LeastLemmas
 mod CostLaws
+mod LeftLemmas

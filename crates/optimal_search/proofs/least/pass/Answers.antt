@@ -1,5 +1,6 @@
 use Rattle.std.proofs.Common.{Err, refl, ap, arith}
 use Rattle.optimal_search.proofs.LeastLemmas.{known_found, known_raised, known_alike, below_last}
+use Rattle.optimal_search.proofs.LeftLemmas.{found_less, raised_less, raised_close, alike_less}
 use Rattle.optimal_search.proofs.least.pass.Goals as goal
 
 pub returns-then-known-r-clause-many : goal.returns-then-known-r-clause-many
@@ -24,3 +25,20 @@ returns-in-Ok-No-clause-known g c =
 pub returns-else-known-r-clause-known : goal.returns-else-known-r-clause-known
 returns-else-known-r-clause-known g c =
     known_alike _ _ _ _ _ _ _ _ _ c.requires.known c.look_less.ensures.low c.look_less.ensures.path (ap (λ rows. rows.items) c.look_less.ensures.rows)
+
+pub returns-in-Ok-Yes-clause-less : goal.returns-in-Ok-Yes-clause-less
+returns-in-Ok-Yes-clause-less g c =
+    let right = rw c.in-Ok-Yes.field-0-is at c.in-Ok-Yes.ensures.right in
+    found_less c.args.last c.args.known.now.low c.args.known.now.ahead c.args.r c.in-Ok-Yes.path c.args.known.now.path right.short c.requires.high c.requires.shorter
+
+pub returns-in-Ok-No-clause-close : goal.returns-in-Ok-No-clause-close
+returns-in-Ok-No-clause-close g c =
+    raised_close c.args.last c.args.known.now.low c.args.r c.raise.new.self.ahead c.requires.low c.requires.high c.raise.ensures.ahead
+
+pub returns-in-Ok-No-clause-less : goal.returns-in-Ok-No-clause-less
+returns-in-Ok-No-clause-less g c =
+    raised_less c.args.last c.args.known.now c.raise.new.self c.args.r c.requires.low c.requires.high c.raise.ensures.low c.raise.ensures.ahead c.raise.ensures.path
+
+pub returns-else-known-r-clause-less : goal.returns-else-known-r-clause-less
+returns-else-known-r-clause-less g c =
+    alike_less c.args.last c.args.known.now c.look_less.new.self c.args.r c.requires.ahead c.look_less.ensures.ahead c.look_less.ensures.low c.look_less.ensures.path
