@@ -3,3 +3,4 @@ pub mod Spells
 pub mod Layouts
 pub mod CanonicalForms
 pub mod CanonicalParts
+pub mod Fronts
