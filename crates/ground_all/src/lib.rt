@@ -13,6 +13,3 @@ mod tuples;
 
 pub use faults::GroundFault;
 pub use grounded::{Grounded, ground};
-
-#[cfg(test)]
-mod tests;
