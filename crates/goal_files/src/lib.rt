@@ -35,6 +35,3 @@ mod text_lines;
 pub use faults::{GoalFault, ObsFault};
 pub use goals::read_goals;
 pub use observations::read_observations;
-
-#[cfg(test)]
-mod tests;

@@ -28,8 +28,6 @@ mod memory;
 mod names;
 mod shelf;
 mod sink;
-#[cfg(test)]
-mod tests;
 mod whole;
 
 pub use faults::{Failed, ReadFault, ShelfFault};

@@ -34,6 +34,3 @@ mod tuples;
 
 pub use faults::GroundFault;
 pub use grounded::{Grounded, ground};
-
-#[cfg(test)]
-mod tests;

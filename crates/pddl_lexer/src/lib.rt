@@ -24,6 +24,3 @@ mod trees;
 pub use faults::{LexFault, TreeFault};
 pub use token::{Token, TokenKind, tokens};
 pub use trees::{Item, TreeList, tree};
-
-#[cfg(test)]
-mod tests;

@@ -21,6 +21,3 @@ mod sections;
 mod typed;
 
 pub use print::{print_domain, print_problem};
-
-#[cfg(test)]
-mod tests;

@@ -43,6 +43,3 @@ pub use faults::{Feature, PddlFault};
 pub use pddl_lexer::TreeFault;
 pub use read::{read_domain, read_problem};
 pub use values::{Domain, Literal, Name, Predicate, Problem, Schema, Term, TypedName};
-
-#[cfg(test)]
-mod tests;

@@ -48,6 +48,3 @@ pub use typed::{
     TypedTerm,
 };
 pub use typing::check;
-
-#[cfg(test)]
-mod tests;
