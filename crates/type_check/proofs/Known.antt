@@ -1,5 +1,5 @@
 -- What is known of the constants and objects of well-typed files.
-use Rattle.std.proofs.Common.{◌≡◌, ℕ, ◌-◌, ◌<◌, ◌≤◌, List, [], ◌∷◌, ◌++◌, length, map, drop, get_or, refl, sym, ap, ◌∙◌, subst, arith, length-append}
+use Rattle.std.proofs.Common.{◌≡◌, ℕ, ◌-◌, ◌<◌, ◌≤◌, List, [], ◌∷◌, ◌++◌, length, map, drop, get_or, sym, ap, ◌∙◌, subst, arith, length-append}
 use Rattle.std.specs.Prelude.{All, Contains}
 use Rattle.std.proofs.lemmas.List.{length-map, length-drop}
 use Rattle.std.proofs.lemmas.List.Elements.{All-head, All-tail, All-append}
@@ -7,11 +7,12 @@ use Rattle.grd_base.specs.declared.roles.FileRole.{FileRole}
 use Rattle.grd_base.specs.declared.roles.FileRole.TheVariants.{Domain, Problem}
 use Rattle.pddl_reader.specs.Forms.{Word}
 use Rattle.pddl_reader.specs.Values.{PlainTypedName, PlainDomain, PlainProblem}
-use Rattle.type_check.specs.Types.{object_type, first_type, type_of, type_names, names_of}
+use Rattle.type_check.specs.Types.{first_type, type_of, type_names, names_of}
 use Rattle.type_check.specs.declared.faults.TypeKind.TheVariants.{TooManyObjects}
 use Rattle.type_check.specs.Checks.{AtMost, Passes, fault_at}
 use Rattle.type_check.specs.Rules.{are_types, typed_checks, names_checks, is_new, all_objects, objects_in_files, IsWellTyped}
 use Rattle.type_check.specs.Tables.{PlainFiles}
+use Rattle.type_check.proofs.TypeLaws.{object_known}
 use Rattle.type_check.proofs.Passed.{each_tells, constants_pass, objects_pass, counts_pass}
 
 -- ---- known types
@@ -19,11 +20,8 @@ use Rattle.type_check.proofs.Passed.{each_tells, constants_pass, objects_pass, c
 abbrev IsKnown : PlainDomain → PlainTypedName → Type 0
 IsKnown d n = Contains (type_names d) (type_of n)
 
-first_is_in : {X : Type 0} (x : X) (xs : List X) → Contains (x ∷ xs) x
-first_is_in x xs = (0, omega arith, refl)
-
 known_type : (d : PlainDomain) (file : FileRole) (types : List Word) → All (Passes d) (are_types file d types) → Contains (type_names d) (first_type types)
-known_type d file [] h = first_is_in object_type _
+known_type d file [] h = object_known d
 known_type d file (t ∷ types) h = All-head (Passes d) _ (are_types file d types) h
 
 known_names : (d : PlainDomain) (file : FileRole) (names : List (List ℕ)) (list : List PlainTypedName) → All (Passes d) (names_checks file d names list) → All (IsKnown d) list

@@ -8,8 +8,9 @@ use Rattle.pddl_reader.specs.Values.{PlainTypedName, PlainDomain}
 use Rattle.type_check.specs.declared.faults.TypeKind.TheVariants.{UnknownType}
 use Rattle.type_check.specs.Types.{texts, names_of, type_names}
 use Rattle.type_check.specs.Checks.{Check, OneOf, Passes, fault_at}
-use Rattle.type_check.specs.Rules.{is_new, are_types, typed_checks, names_checks}
+use Rattle.type_check.specs.Rules.{is_new, are_types, typed_checks}
 use Rattle.type_check.specs.Tables.{HaveKnownTypes}
+use Rattle.type_check.specs.Parts.{names_rules}
 use Rattle.type_check.proofs.Passed.{each_tells}
 
 types_known : (d : PlainDomain) (file : FileRole) (types : List Word) → All (Passes d) (are_types file d types) → All (Contains (type_names d)) (texts types)
@@ -23,7 +24,8 @@ abbrev IsKnown : PlainDomain → PlainTypedName → Type 0
 IsKnown d n = All (Contains (type_names d)) (texts n.types)
 
 pub known_types : (d : PlainDomain) (file : FileRole) (names : List (List ℕ)) (list : List PlainTypedName)
-    → All (Passes d) (names_checks file d names list) → HaveKnownTypes d list
+    → All (Passes d) (names_rules file d names list) → HaveKnownTypes d list
+unfolding names_rules
 known_types d file names list h = record {
   known =
       each_tells d (λ before n. typed_checks file d (names ++ names_of before) n) (IsKnown d)

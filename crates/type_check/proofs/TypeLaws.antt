@@ -1,5 +1,6 @@
 -- The types of a domain, and their parents by numbers.
-use Rattle.std.proofs.Common.{◌≡◌, ℕ, zero, suc, ◌^◌, ◌<◌, ◌≤◌, ◌⊎◌, Bool, true, false, true≢false, cond, List, [], ◌∷◌, ◌++◌, length, get_or, map, replicate, Option, Some, None, Contains, refl, sym, ap, ◌∙◌, subst, inl, inr, arith, length-append}
+use Rattle.std.proofs.Common.{◌≡◌, ℕ, zero, suc, ◌^◌, ◌<◌, ◌≤◌, ◌⊎◌, Bool, true, false, true≢false, cond, not, List, [], ◌∷◌, ◌++◌, length, get_or, set, map, filter, replicate, Option, Some, None, Contains, refl, sym, ap, ◌∙◌, subst, inl, inr, arith, length-append}
+use mathlib.Core.Path.{ap₂}
 use Rattle.std.specs.List.{IsDistinct, AllByRecursion}
 use Rattle.std.specs.Prelude.{IsTrue, ◌↔◌}
 use Rattle.std.specs.Option.{option_map, option_and_then}
@@ -9,44 +10,71 @@ use Rattle.std.proofs.lemmas.List.{get_or-map, get_or_past, length-map}
 use Rattle.std.proofs.lemmas.List.Elements.{Contains-append_left, Contains-append_right, Contains-get_or, recursion_from_All}
 use Rattle.std.proofs.lemmas.Option.{none-some, same_Some}
 use Rattle.pddl_reader.specs.Values.{PlainTypedName, PlainDomain}
-use Rattle.type_check.specs.Types.{object_type, names_of, type_of, is_entry, entries, parent_in, parent, above, LiesUnder, Returns, type_names, place_in}
+use Rattle.type_check.specs.Types.{object_type, names_of, type_of, is_entry, entries, parent_in, parent, above, LiesUnder, Returns, firsts, type_names, place_in}
 use Rattle.type_check.specs.Typing.{IsShortDomain}
 use Rattle.type_check.specs.Chains.{parent_at, climb, LeadsTo, Ends, AreWithin, parents_in, type_parents, NoneReturns}
 use Rattle.type_check.proofs.ChainLaws.{never_returns}
 use Rattle.type_check.proofs.Counts.{few_types}
-use Rattle.type_check.proofs.NameLaws.{eq-same, eq-refl, each-filter, Contains-firsts, distinct-firsts, length-firsts, place-below, place-same}
+use Rattle.type_check.proofs.NameLaws.{eq-refl, each-filter, Contains-firsts, distinct-firsts, length-firsts, place-below, place-same}
 use Rattle.type_check.proofs.ParentLaws.{parent_at-in, parent_at-place, length-parents_in}
 
 Contains-map : {X : Type 0} (f : X → List ℕ) (xs : List X) (x : X) → Contains xs x → Contains (map f xs) (f x)
 Contains-map f xs x h = (h.0, omega (arith, h.1, length-map xs f), get_or-map f xs h.0 x (f x) h.1 ∙ ap f h.2)
 
--- no entries give no parents
-no_parents : (names list : List (List ℕ)) → replicate (length list) None ≡ map (λ t. option_map (place_in names) (parent_in [] t)) list
-no_parents names [] = refl
-no_parents names (t ∷ list) = ap (λ ps. None ∷ ps) (no_parents names list)
-
-pub parents_none : (names : List (List ℕ)) → replicate (length names) None ≡ parents_in names []
-parents_none names = no_parents names names
-
--- an entry gives its own type its own parent
-known_in : (P : List ℕ → Type 0) (es : List PlainTypedName) (t s : List ℕ) → AllByRecursion (λ n. P n.name.text × P (type_of n)) es → parent_in es t ≡ Some s → P t × P s
-known_in P [] t s each h = absurd (none-some s h)
-known_in P (n ∷ es) t s each h = by (bytes_eq n.name.text t) refl h (known_in P es t s each.1)
+-- without an entry each type but `object` stands under `object`, which has number 0
+under_first : (names xs : List (List ℕ)) → place_in names object_type ≡ 0
+    → replicate (length (filter (λ y. not (bytes_eq object_type y)) xs)) (Some 0) ≡ map (λ t. option_map (place_in names) (parent_in [] t)) (filter (λ y. not (bytes_eq object_type y)) xs)
+under_first names [] first = refl
+under_first names (x ∷ xs) first = by (bytes_eq object_type x) refl (under_first names xs first)
   where
-    by : (b : Bool) → bytes_eq n.name.text t ≡ b → cond b (Some (type_of n)) (parent_in es t) ≡ Some s → (parent_in es t ≡ Some s → P t × P s) → P t × P s
-    by true e h rest = (subst P (eq-same n.name.text t e) each.0.0, subst P (same_Some (type_of n) s h) each.0.1)
-    by false e h rest = rest h
+    by : (b : Bool) → bytes_eq object_type x ≡ b
+        → replicate (length (filter (λ y. not (bytes_eq object_type y)) xs)) (Some 0) ≡ map (λ t. option_map (place_in names) (parent_in [] t)) (filter (λ y. not (bytes_eq object_type y)) xs)
+        → replicate (length (cond (not b) (x ∷ filter (λ y. not (bytes_eq object_type y)) xs) (filter (λ y. not (bytes_eq object_type y)) xs))) (Some 0)
+        ≡ map (λ t. option_map (place_in names) (parent_in [] t)) (cond (not b) (x ∷ filter (λ y. not (bytes_eq object_type y)) xs) (filter (λ y. not (bytes_eq object_type y)) xs))
+    by true e rest = rest
+    by false e rest =
+        let here : Some 0 ≡ option_map (place_in names) (parent_in [] x) = sym (ap (λ b. option_map (place_in names) (cond b None (Some object_type))) e ∙ ap (λ (k : ℕ). Some k) first) in
+        ap₂ (λ (p : Option ℕ) ps. p ∷ ps) here rest
+
+pub some_type : (d : PlainDomain) → 0 < length (type_names d)
+unfolding type_names
+some_type d = omega arith
+
+pub first_parents : (d : PlainDomain) → set (replicate (length (type_names d)) (Some 0)) 0 None ≡ parents_in (type_names d) []
+unfolding type_names
+first_parents d =
+    let names = type_names d in
+    let others = firsts (names_of d.types ++ map type_of d.types) in
+    let none : None ≡ option_map (place_in names) (parent_in [] object_type) = sym (ap (λ b. option_map (place_in names) (cond b None (Some object_type))) (eq-refl object_type)) in
+    let first : place_in names object_type ≡ 0 = ap (λ b. cond b 0 (suc (place_in (filter (λ y. not (bytes_eq object_type y)) others) object_type))) (eq-refl object_type) in
+    ap₂ (λ (p : Option ℕ) ps. p ∷ ps) none (under_first names others first)
+
+-- a parent is `object` or the parent of an entry
+parent_among : (P : List ℕ → Type 0) (es : List PlainTypedName) (t s : List ℕ) → P object_type → AllByRecursion (λ n. P (type_of n)) es → parent_in es t ≡ Some s → P s
+parent_among P [] t s top each h = by (bytes_eq object_type t) h
+  where
+    by : (b : Bool) → cond b None (Some object_type) ≡ Some s → P s
+    by true h = absurd (none-some s h)
+    by false h = subst P (same_Some object_type s h) top
+parent_among P (n ∷ es) t s top each h = by (bytes_eq n.name.text t) h (parent_among P es t s top each.1)
+  where
+    by : (b : Bool) → cond b (Some (type_of n)) (parent_in es t) ≡ Some s → (parent_in es t ≡ Some s → P s) → P s
+    by true h rest = subst P (same_Some (type_of n) s h) each.0
+    by false h rest = rest h
 
 module _ (d : PlainDomain) where
   pub distinct_types : IsDistinct bytes_eq (type_names d)
+  unfolding type_names
   distinct_types = distinct-firsts (object_type ∷ names_of d.types ++ map type_of d.types)
 
   declared : (t : List ℕ) → Contains (names_of d.types) t → Contains (type_names d) t
+  unfolding type_names
   declared t h =
       Contains-firsts (object_type ∷ names_of d.types ++ map type_of d.types) t
       (Contains-append_right (object_type ∷ []) (names_of d.types ++ map type_of d.types) t (Contains-append_left (names_of d.types) (map type_of d.types) t h))
 
   given : (t : List ℕ) → Contains (map type_of d.types) t → Contains (type_names d) t
+  unfolding type_names
   given t h =
       Contains-firsts (object_type ∷ names_of d.types ++ map type_of d.types) t
       (Contains-append_right (object_type ∷ []) (names_of d.types ++ map type_of d.types) t (Contains-append_right (names_of d.types) (map type_of d.types) t h))
@@ -59,15 +87,20 @@ module _ (d : PlainDomain) where
   parent_known n h = given (type_of n) (Contains-map type_of d.types n h)
 
   pub few_type_names : IsShortDomain d → length (type_names d) ≤ 2 ^ 32
+  unfolding type_names
   few_type_names h =
       omega (arith, length-firsts (object_type ∷ names_of d.types ++ map type_of d.types), length-append (names_of d.types) (map type_of d.types), length-map d.types (λ (m : PlainTypedName). m.name.text), length-map d.types type_of, few_types h.text d h.spells, h.short)
 
-  -- where a type has a parent, both are known
-  pub both_known : (t s : List ℕ) → parent d t ≡ Some s → Contains (type_names d) t × Contains (type_names d) s
-  both_known t s h =
-      let each = recursion_from_All (λ (n : PlainTypedName). Contains (type_names d) n.name.text × Contains (type_names d) (type_of n)) d.types
-      (λ k n less. let there = Contains-get_or d.types k n less in (type_known (get_or d.types k n) there, parent_known (get_or d.types k n) there)) in
-      known_in (Contains (type_names d)) (entries d) t s (each-filter (λ (n : PlainTypedName). Contains (type_names d) n.name.text × Contains (type_names d) (type_of n)) is_entry d.types each) h
+  pub object_known : Contains (type_names d) object_type
+  unfolding type_names
+  object_known = (0, omega arith, refl)
+
+  -- a parent is a type
+  above_type : (t s : List ℕ) → parent d t ≡ Some s → Contains (type_names d) s
+  above_type t s h =
+      let each = recursion_from_All (λ (n : PlainTypedName). Contains (type_names d) (type_of n)) d.types
+      (λ k n less. parent_known (get_or d.types k n) (Contains-get_or d.types k n less)) in
+      parent_among (Contains (type_names d)) (entries d) t s object_known (each-filter (λ (n : PlainTypedName). Contains (type_names d) (type_of n)) is_entry d.types each) h
 
   pub above_known : (n : ℕ) (s u : List ℕ) → Contains (type_names d) s → above d n s ≡ Some u → Contains (type_names d) u
   above_known zero s u known h = subst (Contains (type_names d)) (same_Some s u h) known
@@ -75,7 +108,7 @@ module _ (d : PlainDomain) where
     where
       by : (o : Option (List ℕ)) → parent d s ≡ o → option_and_then (above d n) o ≡ Some u → ((p : List ℕ) → Contains (type_names d) p → above d n p ≡ Some u → Contains (type_names d) u) → Contains (type_names d) u
       by None e h rest = absurd (none-some u h)
-      by (Some p) e h rest = rest p (both_known s p e).1 h
+      by (Some p) e h rest = rest p (above_type s p e) h
 
   -- a chain by names is a chain by numbers
   pub climb-above : (n : ℕ) (t : List ℕ) → Contains (type_names d) t → climb (type_parents d) n (place_in (type_names d) t) ≡ option_map (place_in (type_names d)) (above d n t)
@@ -86,7 +119,7 @@ module _ (d : PlainDomain) where
       by : (o : Option (List ℕ)) → parent d t ≡ o → ((s : List ℕ) → Contains (type_names d) s → climb (type_parents d) n (place_in (type_names d) s) ≡ option_map (place_in (type_names d)) (above d n s))
           → option_and_then (climb (type_parents d) n) (option_map (place_in (type_names d)) o) ≡ option_map (place_in (type_names d)) (option_and_then (above d n) o)
       by None e rest = refl
-      by (Some s) e rest = rest s (both_known t s e).1
+      by (Some s) e rest = rest s (above_type t s e)
 
   pub leads_by_names : (s t : List ℕ) → Contains (type_names d) s → (n : ℕ) × (above d n s ≡ Some t) → LeadsTo (type_parents d) (place_in (type_names d) s) (place_in (type_names d) t)
   leads_by_names s t known way = (way.0, climb-above way.0 s known ∙ ap (option_map (place_in (type_names d))) way.1)
@@ -110,7 +143,7 @@ module _ (d : PlainDomain) where
       inside : (o : Option (List ℕ)) → parent d (get_or (type_names d) j []) ≡ o → option_map (place_in (type_names d)) o ≡ Some k → k < length (type_parents d)
       inside None e h = absurd (none-some k h)
       inside (Some s) e h =
-          omega (arith, same_Some _ _ h, place-below (type_names d) s (both_known (get_or (type_names d) j []) s e).1, length-type_parents)
+          omega (arith, same_Some _ _ h, place-below (type_names d) s (above_type (get_or (type_names d) j []) s e), length-type_parents)
 
       by : (j < length (type_names d)) ⊎ (length (type_names d) ≤ j) → k < length (type_parents d)
       by (inl less) = inside (parent d (get_or (type_names d) j [])) refl (sym (parent_at-in (type_names d) (entries d) j less) ∙ up)
@@ -126,7 +159,7 @@ module _ (d : PlainDomain) where
       by : (o : Option (List ℕ)) → parent d t ≡ o → option_map (place_in (type_names d)) o ≡ Some p → Returns d t
       by None e h = absurd (none-some p h)
       by (Some s) e h =
-          let found = leads_by_numbers s t (both_known t s e).1 known (subst (λ q. LeadsTo (type_parents d) q (place_in (type_names d) t)) (sym (same_Some _ _ h)) way) in
+          let found = leads_by_numbers s t (above_type t s e) known (subst (λ q. LeadsTo (type_parents d) q (place_in (type_names d) t)) (sym (same_Some _ _ h)) way) in
           (found.0, ap (option_and_then (above d found.0)) e ∙ found.1)
 
   pub record ReturnsAt (t : List ℕ) : Type 0 where
@@ -141,12 +174,13 @@ module _ (d : PlainDomain) where
       by : (o : Option (List ℕ)) → parent d t ≡ o → option_and_then (above d n) o ≡ Some t → ReturnsAt t
       by None e h = absurd (none-some t h)
       by (Some s) e h =
-          let both = both_known t s e in
+          let known_parent = above_type t s e in
+          let known = above_known n s t known_parent h in
           record {
-            known = both.0;
+            known = known;
             up = place_in (type_names d) s;
-            is_parent = parent_at-place (type_names d) (entries d) t both.0 ∙ ap (option_map (place_in (type_names d))) e;
-            way = leads_by_names s t both.1 (n, h);
+            is_parent = parent_at-place (type_names d) (entries d) t known ∙ ap (option_map (place_in (type_names d))) e;
+            way = leads_by_names s t known_parent (n, h);
           }
 
   pub none_return : ((k : ℕ) → k < length (type_parents d) → Ends (type_parents d) k) → NoneReturns d

@@ -6,4 +6,5 @@ pub mod Rules
 pub mod Typing
 pub mod Tables
 pub mod Scopes
+pub mod Parts
 pub mod Chains

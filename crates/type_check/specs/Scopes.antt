@@ -19,33 +19,33 @@ pub record PlainScope : Type 0 where
   pub objects : List PlainTypedName
 
 -- a name in a literal: it is declared, and its types fit the place
-abbrev pub named_checks : TypeKind → FileRole → List PlainTypedName → Word → PlainTypedName → List Check
+unfoldable pub named_checks : TypeKind → FileRole → List PlainTypedName → Word → PlainTypedName → List Check
 named_checks missing file declared w place =
     record { need = OneOf (names_of declared) w.text; fault = fault_at missing file w.at }
     ∷ fit_checks file w (find_name declared w.text) place
 
 -- the rules of a term, of terms and of a literal in a scope
-abbrev pub term_in : PlainScope → PlainTerm → PlainTypedName → List Check
+unfoldable pub term_in : PlainScope → PlainTerm → PlainTypedName → List Check
 term_in s t place = term_checks s.file s.parameters s.objects t place
 
-abbrev pub terms_in : PlainScope → List PlainTerm → List PlainTypedName → List Check
+unfoldable pub terms_in : PlainScope → List PlainTerm → List PlainTypedName → List Check
 terms_in s terms places = terms_checks s.file s.parameters s.objects terms places
 
-abbrev pub literal_in : PlainScope → PlainLiteral → List Check
+unfoldable pub literal_in : PlainScope → PlainLiteral → List Check
 literal_in s l = literal_checks s.file s.domain s.parameters s.objects l
 
 -- what they make there
-abbrev pub typed_in : PlainScope → PlainTerm → TypedTerm
+unfoldable pub typed_in : PlainScope → PlainTerm → TypedTerm
 typed_in s t = typed_term (names_of s.parameters) (names_of s.objects) t
 
-abbrev pub typed_literal_in : PlainScope → PlainLiteral → PlainTypedLiteral
+unfoldable pub typed_literal_in : PlainScope → PlainLiteral → PlainTypedLiteral
 typed_literal_in s l = typed_literal s.domain (names_of s.parameters) (names_of s.objects) l
 
 -- the object that a term names, and an atom by numbers
-abbrev pub object_in : PlainScope → PlainTerm → ℕ
+unfoldable pub object_in : PlainScope → PlainTerm → ℕ
 object_in s t = place_in (names_of s.objects) (term_name t)
 
-abbrev pub atom_in : PlainScope → PlainLiteral → PlainGroundAtom
+unfoldable pub atom_in : PlainScope → PlainLiteral → PlainGroundAtom
 atom_in s l = record {
   predicate = place_in (predicate_names s.domain.predicates) l.predicate.text;
   objects = map (object_in s) l.terms;

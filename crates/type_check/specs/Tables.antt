@@ -23,7 +23,7 @@ pub record PlainLiterals : Type 0 where
   pub pre : List PlainTypedLiteral
   pub effect : List PlainTypedLiteral
 
-abbrev pub checked_schema : PlainDomain → PlainSchema → PlainLiterals
+unfoldable pub checked_schema : PlainDomain → PlainSchema → PlainLiterals
 checked_schema d a = record { pre = typed_literals d a a.pre; effect = typed_literals d a a.effect }
 
 -- a domain and a problem

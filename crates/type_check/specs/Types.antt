@@ -6,7 +6,7 @@ use Rattle.pddl_reader.specs.Forms.{Word}
 use Rattle.pddl_reader.specs.Values.{PlainTypedName, PlainDomain}
 
 -- the type above all others
-abbrev pub object_type : List ℕ
+unfoldable pub object_type : List ℕ
 object_type = codes "object"
 
 abbrev pub texts : List Word → List (List ℕ)
@@ -30,9 +30,13 @@ is_entry n = not (bytes_eq object_type n.name.text && bytes_eq object_type (type
 abbrev pub entries : PlainDomain → List PlainTypedName
 entries d = filter is_entry d.types
 
+-- the parent of a type that no entry declares: `object` has none, and each other stands under `object`
+abbrev pub undeclared_parent : List ℕ → Option (List ℕ)
+undeclared_parent t = if bytes_eq object_type t then None else Some object_type
+
 -- the parent that the first of these entries of the type gives
 abbrev pub parent_in : List PlainTypedName → List ℕ → Option (List ℕ)
-parent_in [] t = None
+parent_in [] t = undeclared_parent t
 parent_in (n ∷ names) t = if bytes_eq n.name.text t then Some (type_of n) else parent_in names t
 
 abbrev pub parent : PlainDomain → List ℕ → Option (List ℕ)
@@ -62,7 +66,7 @@ firsts (x ∷ xs) = x ∷ filter (λ y. not (bytes_eq x y)) (firsts xs)
 
 -- the types by their numbers: `object`, then the other declared types in text order, then the parents
 -- that are not declared
-abbrev pub type_names : PlainDomain → List (List ℕ)
+unfoldable pub type_names : PlainDomain → List (List ℕ)
 type_names d = firsts (object_type ∷ names_of d.types ++ map type_of d.types)
 
 -- the first place of the text in the list; where it is not there, the list's length

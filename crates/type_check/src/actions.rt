@@ -1,10 +1,10 @@
 ghost use Rattle.std.specs.Prelude.{◌≡◌, ◌+◌, ◌≤◌, ◌^◌, List, [], ◌∷◌, ◌++◌, length, map, All, IfOk, IfErr, OnOk};
-ghost use Rattle.std.specs.List.{flat_map};
 ghost use Rattle.pddl_reader.specs.Values.{PlainSchema, PlainDomain};
 ghost use Rattle.type_check.specs.Checks.{Passes};
-ghost use Rattle.type_check.specs.Rules.{literals_of, few_literals, schema_names, action_checks, checks_of_each};
+ghost use Rattle.type_check.specs.Rules.{literals_of, few_literals, schema_names};
 ghost use Rattle.type_check.specs.Tables.{HasFault, HaveKnownTypes, checked_schema};
-ghost use Rattle.type_check.specs.Scopes.{literal_in, typed_literal_in};
+ghost use Rattle.type_check.specs.Scopes.{typed_literal_in};
+ghost use Rattle.type_check.specs.Parts.{action_rules, actions_rules, literals_rules};
 
 use crate::declared::{Declared, add_new, fault};
 use crate::faults::{CheckTypeFault, TypeKind};
@@ -40,9 +40,9 @@ fn checked_literals(
     ensures effect { IfOk result
         (λ ls. ls.effect ≡ map (typed_literal_in scope.now) action.now.effect) }
     ensures passed { OnOk result
-        (All (Passes scope.now.domain) (flat_map (literal_in scope.now) (literals_of action.now))) }
+        (All (Passes scope.now.domain) (literals_rules scope.now (literals_of action.now))) }
     ensures fault { IfErr result
-        (HasFault scope.now.domain (flat_map (literal_in scope.now) (literals_of action.now))) }
+        (HasFault scope.now.domain (literals_rules scope.now (literals_of action.now))) }
 {
     Ok(Literals {
         pre: scope.typed_literals(alloc, &action.pre)?,
@@ -65,9 +65,9 @@ fn checked_action<'a>(
     ensures added { OnOk result (names.new ≡ names.old ++ action.now.name.text ∷ []) }
     ensures checked { IfOk result (λ ls. ls ≡ checked_schema types.now action.now) }
     ensures passed { (before : List PlainSchema) → names.old ≡ schema_names before
-        → OnOk result (All (Passes types.now) (action_checks types.now before action.now)) }
+        → OnOk result (All (Passes types.now) (action_rules types.now before action.now)) }
     ensures fault { (before : List PlainSchema) → names.old ≡ schema_names before
-        → IfErr result (HasFault types.now (action_checks types.now before action.now)) }
+        → IfErr result (HasFault types.now (action_rules types.now before action.now)) }
 {
     add_new(FileRole::Domain, names, &action.name)?;
     check_few(&action.parameters, &action.name)?;
@@ -84,6 +84,7 @@ fn checked_action<'a>(
 }
 
 /// The literals of each action by their numbers, where the rules of actions hold.
+#[tactic(auto, unfolding(crate::specs::Parts::actions_rules))]
 pub(crate) fn checked_actions(
     alloc: Global,
     types: &Types,
@@ -97,9 +98,9 @@ pub(crate) fn checked_actions(
     ensures checked { IfOk result
         (λ checked. checked.items ≡ map (checked_schema types.now) actions.now) }
     ensures passed { OnOk result
-        (All (Passes types.now) (checks_of_each (action_checks types.now) actions.now)) }
+        (All (Passes types.now) (actions_rules types.now actions.now)) }
     ensures fault { IfErr result
-        (HasFault types.now (checks_of_each (action_checks types.now) actions.now)) }
+        (HasFault types.now (actions_rules types.now actions.now)) }
 {
     let mut names = Names::new(alloc);
     let mut checked = Vec::with_capacity(alloc, actions.len())?;

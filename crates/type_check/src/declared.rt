@@ -2,8 +2,9 @@ ghost use Rattle.std.specs.Prelude.{◌≡◌, ◌≤◌, ◌^◌, ◌+◌, [], 
 ghost use Rattle.pddl_reader.specs.Values.{PlainDomain};
 ghost use Rattle.type_check.specs.Types.{names_of, place_in};
 ghost use Rattle.type_check.specs.Checks.{Passes, fault_at};
-ghost use Rattle.type_check.specs.Rules.{is_new, are_types, typed_checks, names_checks, find_name};
+ghost use Rattle.type_check.specs.Rules.{is_new, are_types, typed_checks, find_name};
 ghost use Rattle.type_check.specs.Tables.{HasFault};
+ghost use Rattle.type_check.specs.Parts.{names_rules};
 
 use crate::faults::{CheckTypeFault, TypeFault, TypeKind};
 use crate::names::Names;
@@ -72,6 +73,7 @@ fn declare<'a>(
 }
 
 /// Adds names in turn that are declared for the first time, with types of the domain.
+#[tactic(auto, unfolding(crate::specs::Parts::names_rules))]
 fn declare_each<'a>(
     types: &Types,
     file: FileRole,
@@ -80,9 +82,9 @@ fn declare_each<'a>(
 ) -> Result<(), CheckTypeFault>
     ensures added { OnOk result (names.new ≡ names.old ++ names_of list.now) }
     ensures passed { OnOk result
-        (All (Passes types.now) (names_checks file types.now names.old list.now)) }
+        (All (Passes types.now) (names_rules file types.now names.old list.now)) }
     ensures fault { IfErr result
-        (HasFault types.now (names_checks file types.now names.old list.now)) }
+        (HasFault types.now (names_rules file types.now names.old list.now)) }
 {
     for declared in list {
         declare(types, file, names, declared)?;
@@ -146,9 +148,9 @@ impl<'a> Declared<'a> {
         requires few { length self + length list.now ≤ 2 ^ 32 }
         ensures declared { IfOk result (λ s. s ≡ self.entry ++ list.now) }
         ensures passed { OnOk result
-            (All (Passes types.now) (names_checks file types.now (names_of self.entry) list.now)) }
+            (All (Passes types.now) (names_rules file types.now (names_of self.entry) list.now)) }
         ensures fault { IfErr result
-            (HasFault types.now (names_checks file types.now (names_of self.entry) list.now)) }
+            (HasFault types.now (names_rules file types.now (names_of self.entry) list.now)) }
     {
         let Declared {
             mut names,

@@ -12,6 +12,7 @@ use pddl_reader::{Domain, TypedName};
 use std::alloc::Global;
 
 /// The first type of a name: a declared type, a constant or an object has just one.
+#[tactic(auto, unfolding(crate::specs::Types::object_type))]
 pub(crate) fn type_text(n: &TypedName) -> &str
     ensures { result.now ≡ type_of n.now }
 {
@@ -22,6 +23,7 @@ pub(crate) fn type_text(n: &TypedName) -> &str
 }
 
 /// Whether the declaration gives its type a parent.
+#[tactic(auto, unfolding(crate::specs::Types::object_type))]
 pub(crate) fn is_entry(n: &TypedName) -> bool
     ensures { result ≡ is_entry n.now }
 {
@@ -59,27 +61,24 @@ pub(crate) fn numbered<'a>(alloc: Global, domain: &'a Domain) -> Result<Names<'a
     Ok(names)
 }
 
-// Gives a type the parent that an entry names, where it has none yet.
+// Gives a type the parent that an entry names, in the place of what the entries behind it gave.
 fn note_parent(names: &Names, parents: &mut [Option<u32>], entry: &TypedName)
     requires few { length names.now ≤ 2 ^ 32 }
     requires distinct { IsDistinct bytes_eq names.now }
     requires known { Contains names.now entry.now.name.text }
     requires parent_known { Contains names.now (type_of entry.now) }
     requires each { length parents.old ≡ length names.now }
-    ensures { (before : List PlainTypedName) → parents.old ≡ parents_in names.now before
-        → parents.new ≡ parents_in names.now (before ++ entry.now ∷ []) }
+    ensures { (behind : List PlainTypedName) → parents.old ≡ parents_in names.now behind
+        → parents.new ≡ parents_in names.now (entry.now ∷ behind) }
 {
     let number = names.place_of(entry.name.text.as_str());
     let parent = names.place_of(type_text(entry));
     if let Some(number) = number {
-        let number = number as usize;
-        if parents[number].is_none() {
-            parents[number] = parent;
-        }
+        parents[number as usize] = parent;
     }
 }
 
-/// The parent of each type by its number.
+/// The parent of each type by its number. A type that is not declared stands under `object`.
 pub(crate) fn parents_of(
     alloc: Global,
     names: &Names,
@@ -89,8 +88,11 @@ pub(crate) fn parents_of(
     requires names { names.now ≡ type_names domain.now }
     ensures { IfOk result (λ parents. parents.items ≡ type_parents domain.now) }
 {
-    let mut parents = vec![in alloc; None; names.len()]?;
-    for n in &domain.types {
+    let types = domain.types.as_slice();
+    let mut parents = vec![in alloc; Some(0); names.len()]?;
+    parents[0] = None;
+    for at in (0..types.len()).rev() {
+        let n = &types[at];
         if is_entry(n) {
             note_parent(names, &mut parents, n);
         }

@@ -1,11 +1,11 @@
 ghost use Rattle.std.specs.Prelude.{◌≡◌, [], ◌∷◌, Some, length, map, All, Contains, IfOk, IfErr, OnOk};
-ghost use Rattle.std.specs.List.{flat_map};
 ghost use Rattle.pddl_reader.specs.Terms.{plain_term};
 ghost use Rattle.type_check.specs.Types.{names_of, place_in};
 ghost use Rattle.type_check.specs.Checks.{Passes};
 ghost use Rattle.type_check.specs.Rules.{predicate_names, find_predicate};
 ghost use Rattle.type_check.specs.Tables.{HasFault, HaveKnownTypes};
 ghost use Rattle.type_check.specs.Scopes.{named_checks, term_in, terms_in, literal_in, typed_in, typed_literal_in, object_in, atom_in};
+ghost use Rattle.type_check.specs.Parts.{literals_rules};
 
 use crate::declared::{Declared, fault};
 use crate::faults::{CheckTypeFault, TypeKind};
@@ -49,6 +49,7 @@ impl<'s, 'a> Model for Scope<'s, 'a> {
 
 impl<'s, 'a> Scope<'s, 'a> {
     /// The place of the name among those that are declared, where its types fit.
+    #[tactic(auto, unfolding(crate::specs::Scopes::named_checks))]
     fn number_of(
         &self,
         declared: &Declared,
@@ -73,6 +74,7 @@ impl<'s, 'a> Scope<'s, 'a> {
     }
 
     /// The term by its number.
+    #[tactic(auto, unfolding(crate::specs::Scopes::named_checks, crate::specs::Scopes::term_in, crate::specs::Scopes::typed_in))]
     fn typed_term(&self, term: &Term, place: &TypedName) -> Result<TypedTerm, CheckTypeFault>
         ensures typed { IfOk result (λ t. t ≡ typed_in self.now (plain_term term.now)) }
         ensures passed { OnOk result
@@ -94,6 +96,7 @@ impl<'s, 'a> Scope<'s, 'a> {
         }
     }
 
+    #[tactic(auto, unfolding(crate::specs::Scopes::terms_in))]
     fn typed_terms(
         &self,
         alloc: Global,
@@ -138,6 +141,7 @@ impl<'s, 'a> Scope<'s, 'a> {
     }
 
     /// The literal by numbers.
+    #[tactic(auto, unfolding(crate::specs::Scopes::typed_literal_in, crate::specs::Scopes::typed_in))]
     fn typed_literal(
         &self,
         alloc: Global,
@@ -157,6 +161,7 @@ impl<'s, 'a> Scope<'s, 'a> {
     }
 
     /// The literals by numbers, in their order.
+    #[tactic(auto, unfolding(crate::specs::Parts::literals_rules))]
     pub(crate) fn typed_literals(
         &self,
         alloc: Global,
@@ -164,9 +169,9 @@ impl<'s, 'a> Scope<'s, 'a> {
     ) -> Result<Vec<TypedLiteral>, CheckTypeFault>
         ensures typed { IfOk result (λ ls. ls.items ≡ map (typed_literal_in self.now) literals.now) }
         ensures passed { OnOk result
-            (All (Passes self.now.domain) (flat_map (literal_in self.now) literals.now)) }
+            (All (Passes self.now.domain) (literals_rules self.now literals.now)) }
         ensures fault { IfErr result
-            (HasFault self.now.domain (flat_map (literal_in self.now) literals.now)) }
+            (HasFault self.now.domain (literals_rules self.now literals.now)) }
     {
         let mut typed = Vec::with_capacity(alloc, literals.len())?;
         for literal in literals {
@@ -176,6 +181,7 @@ impl<'s, 'a> Scope<'s, 'a> {
     }
 
     /// The object that the term names, where there are no parameters.
+    #[tactic(auto, unfolding(crate::specs::Scopes::object_in, crate::specs::Scopes::typed_in))]
     fn object_of(&self, term: &Term, place: &TypedName) -> Result<u32, CheckTypeFault>
         requires { self.now.parameters ≡ [] }
         ensures object { IfOk result (λ k. k ≡ object_in self.now (plain_term term.now)) }
@@ -190,6 +196,7 @@ impl<'s, 'a> Scope<'s, 'a> {
     }
 
     /// The objects that the terms name, where there are no parameters.
+    #[tactic(auto, unfolding(crate::specs::Scopes::terms_in))]
     fn objects_of(
         &self,
         alloc: Global,
@@ -213,6 +220,7 @@ impl<'s, 'a> Scope<'s, 'a> {
     }
 
     /// The atom by numbers.
+    #[tactic(auto, unfolding(crate::specs::Scopes::atom_in, crate::specs::Scopes::object_in))]
     fn ground_atom(&self, alloc: Global, atom: &Literal) -> Result<GroundAtom, CheckTypeFault>
         requires { self.now.parameters ≡ [] }
         ensures ground { IfOk result (λ a. a ≡ atom_in self.now atom.now) }
@@ -227,6 +235,7 @@ impl<'s, 'a> Scope<'s, 'a> {
     }
 
     /// The atoms by numbers, in their order.
+    #[tactic(auto, unfolding(crate::specs::Parts::literals_rules))]
     pub(crate) fn ground_atoms(
         &self,
         alloc: Global,
@@ -235,9 +244,9 @@ impl<'s, 'a> Scope<'s, 'a> {
         requires { self.now.parameters ≡ [] }
         ensures ground { IfOk result (λ ats. ats.items ≡ map (atom_in self.now) atoms.now) }
         ensures passed { OnOk result
-            (All (Passes self.now.domain) (flat_map (literal_in self.now) atoms.now)) }
+            (All (Passes self.now.domain) (literals_rules self.now atoms.now)) }
         ensures fault { IfErr result
-            (HasFault self.now.domain (flat_map (literal_in self.now) atoms.now)) }
+            (HasFault self.now.domain (literals_rules self.now atoms.now)) }
     {
         let mut ground = Vec::with_capacity(alloc, atoms.len())?;
         for atom in atoms {

@@ -2,8 +2,9 @@ ghost use Rattle.std.specs.Prelude.{◌≡◌, ◌≤◌, ◌^◌, List, [], ◌
 ghost use Rattle.pddl_reader.specs.Values.{PlainPredicate, PlainDomain};
 ghost use Rattle.type_check.specs.Types.{place_in};
 ghost use Rattle.type_check.specs.Checks.{Passes, fault_at};
-ghost use Rattle.type_check.specs.Rules.{few_parameters, predicate_names, find_predicate, predicate_checks, checks_of_each};
+ghost use Rattle.type_check.specs.Rules.{few_parameters, predicate_names, find_predicate};
 ghost use Rattle.type_check.specs.Tables.{HasFault};
+ghost use Rattle.type_check.specs.Parts.{predicate_rules, predicates_rules};
 
 use crate::declared::{Declared, add_new, fault};
 use crate::faults::{CheckTypeFault, TypeKind};
@@ -37,9 +38,9 @@ fn add_predicate<'a>(
 ) -> Result<(), CheckTypeFault>
     ensures added { OnOk result (names.new ≡ names.old ++ predicate.now.name.text ∷ []) }
     ensures passed { (before : List PlainPredicate) → names.old ≡ predicate_names before
-        → OnOk result (All (Passes types.now) (predicate_checks types.now before predicate.now)) }
+        → OnOk result (All (Passes types.now) (predicate_rules types.now before predicate.now)) }
     ensures fault { (before : List PlainPredicate) → names.old ≡ predicate_names before
-        → IfErr result (HasFault types.now (predicate_checks types.now before predicate.now)) }
+        → IfErr result (HasFault types.now (predicate_rules types.now before predicate.now)) }
 {
     add_new(FileRole::Domain, names, &predicate.name)?;
     check_few(&predicate.parameters, &predicate.name)?;
@@ -69,6 +70,7 @@ impl<'a> Model for Predicates<'a> {
 
 impl<'a> Predicates<'a> {
     /// The predicates, where their rules hold.
+    #[tactic(auto, unfolding(crate::specs::Parts::predicates_rules))]
     pub(crate) fn of(
         alloc: Global,
         types: &Types,
@@ -77,9 +79,9 @@ impl<'a> Predicates<'a> {
         requires few { length predicates.now ≤ 2 ^ 32 }
         ensures predicates { IfOk result (λ s. s ≡ predicates.now) }
         ensures passed { OnOk result
-            (All (Passes types.now) (checks_of_each (predicate_checks types.now) predicates.now)) }
+            (All (Passes types.now) (predicates_rules types.now predicates.now)) }
         ensures fault { IfErr result
-            (HasFault types.now (checks_of_each (predicate_checks types.now) predicates.now)) }
+            (HasFault types.now (predicates_rules types.now predicates.now)) }
     {
         let mut names = Names::new(alloc);
         for predicate in predicates {

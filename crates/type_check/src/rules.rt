@@ -1,7 +1,9 @@
-ghost use Rattle.std.specs.Prelude.{◌≡◌, map, IfOk, IfErr};
-ghost use Rattle.type_check.specs.Rules.{checks_of, IsWellTyped};
+ghost use Rattle.std.specs.Prelude.{◌≡◌, map, All, IfOk, IfErr, OnOk};
+ghost use Rattle.type_check.specs.Checks.{Passes};
+ghost use Rattle.type_check.specs.Rules.{domain_checks, checks_of, IsWellTyped};
 ghost use Rattle.type_check.specs.Typing.{IsShortDomain, IsShortProblem, ground_atom};
-ghost use Rattle.type_check.specs.Tables.{HasFault, checked_schema};
+ghost use Rattle.type_check.specs.Tables.{HasFault, HaveKnownTypes, checked_schema};
+ghost use Rattle.type_check.specs.Parts.{front_rules};
 
 use crate::actions::checked_actions;
 use crate::declared::Declared;
@@ -39,6 +41,68 @@ pub(crate) struct Checked<'a> {
     pub(crate) init: Vec<GroundAtom>,
 }
 
+/// What a domain declares in front of its actions, where the rules of that hold.
+#[derive(Drop)]
+pub(crate) struct DomainNames<'a> {
+    types: Types<'a>,
+    constants: Declared<'a>,
+    predicates: Predicates<'a>,
+}
+
+/// What the rules leave of a domain that meets them all.
+#[derive(Drop)]
+pub(crate) struct CheckedDomain<'a> {
+    names: DomainNames<'a>,
+    /// The literals of each action.
+    actions: Vec<Literals>,
+}
+
+// Checks the rules of types, constants and predicates, in this order.
+fn domain_names<'a>(alloc: Global, domain: &'a Domain) -> Result<DomainNames<'a>, CheckTypeFault>
+    requires { IsShortDomain domain.now }
+    ensures types { IfOk result (λ c. c.types ≡ domain.now) }
+    ensures constants { IfOk result (λ c. c.constants ≡ domain.now.constants) }
+    ensures known { IfOk result (λ c. HaveKnownTypes domain.now c.constants) }
+    ensures predicates { IfOk result (λ c. c.predicates ≡ domain.now.predicates) }
+    ensures passed { OnOk result (All (Passes domain.now) (front_rules domain.now)) }
+    ensures fault { IfErr result (HasFault domain.now (front_rules domain.now)) }
+{
+    let types = Types::of(alloc, domain)?;
+    let constants = Declared::new(alloc).followed_by(&types, FileRole::Domain, &domain.constants)?;
+    let predicates = Predicates::of(alloc, &types, &domain.predicates)?;
+    Ok(DomainNames {
+        types,
+        constants,
+        predicates,
+    })
+}
+
+// Checks the rules of the domain, in the order in which faults are found.
+fn checked_domain<'a>(
+    alloc: Global,
+    domain: &'a Domain,
+) -> Result<CheckedDomain<'a>, CheckTypeFault>
+    requires { IsShortDomain domain.now }
+    ensures types { IfOk result (λ c. c.names.types ≡ domain.now) }
+    ensures constants { IfOk result (λ c. c.names.constants ≡ domain.now.constants) }
+    ensures known { IfOk result (λ c. HaveKnownTypes domain.now c.names.constants) }
+    ensures predicates { IfOk result (λ c. c.names.predicates ≡ domain.now.predicates) }
+    ensures actions { IfOk result (λ c. c.actions.items ≡ map (checked_schema domain.now) domain.now.actions) }
+    ensures passed { OnOk result (All (Passes domain.now) (domain_checks domain.now)) }
+    ensures fault { IfErr result (HasFault domain.now (domain_checks domain.now)) }
+{
+    let names = domain_names(alloc, domain)?;
+    let types = &names.types;
+    let actions = checked_actions(
+        alloc,
+        types,
+        &names.predicates,
+        &names.constants,
+        &domain.actions,
+    )?;
+    Ok(CheckedDomain { names, actions })
+}
+
 /// Checks every rule, in the order in which faults are found.
 pub(crate) fn check_rules<'a>(
     alloc: Global,
@@ -53,10 +117,13 @@ pub(crate) fn check_rules<'a>(
     ensures init { IfOk result (λ c. c.init.items ≡ map (ground_atom domain.now problem.now) problem.now.init) }
     ensures fault { IfErr result (HasFault domain.now (checks_of domain.now problem.now)) }
 {
-    let types = Types::of(alloc, domain)?;
-    let constants = Declared::new(alloc).followed_by(&types, FileRole::Domain, &domain.constants)?;
-    let predicates = Predicates::of(alloc, &types, &domain.predicates)?;
-    let actions = checked_actions(alloc, &types, &predicates, &constants, &domain.actions)?;
+    let checked = checked_domain(alloc, domain)?;
+    let CheckedDomain { names, actions } = checked;
+    let DomainNames {
+        types,
+        constants,
+        predicates,
+    } = names;
     let init = checked_problem(alloc, &types, &predicates, constants, domain, problem)?;
     Ok(Checked {
         types,

@@ -1,12 +1,13 @@
 ghost use Rattle.std.specs.Prelude.{◌≡◌, ◌↔◌, ◌∷◌, ◌++◌, [], ℕ, List, IsTrue, All, Any, Contains, IfOk, IfErr, OnOk, IfSome, IfNone};
 ghost use Rattle.grd_base.specs.declared.roles.FileRole.TheVariants.{Domain as OfDomain};
 ghost use Rattle.pddl_reader.specs.Values.{PlainTypedName};
-ghost use Rattle.type_check.specs.Types.{texts, names_of, type_of, type_names, place_in, entries, FitsTypes, LiesUnder, Returns};
+ghost use Rattle.type_check.specs.Types.{texts, names_of, type_of, type_names, place_in, FitsTypes, LiesUnder, Returns};
 ghost use Rattle.type_check.specs.Checks.{Meets, Acyclic, Passes, fault_at};
-ghost use Rattle.type_check.specs.Rules.{type_checks, checks_of_each};
+ghost use Rattle.type_check.specs.Rules.{type_checks};
 ghost use Rattle.type_check.specs.Typing.{IsShortDomain};
 ghost use Rattle.type_check.specs.Tables.{HasFault};
 ghost use Rattle.type_check.specs.Chains.{NoneReturns};
+ghost use Rattle.type_check.specs.Parts.{types_rules};
 
 use crate::chains::{all_end, leads_to};
 use crate::entries::{is_entry, numbered, parents_of, type_text};
@@ -53,8 +54,8 @@ impl<'a> Types<'a> {
     pub(crate) fn of(alloc: Global, domain: &'a Domain) -> Result<Types<'a>, CheckTypeFault>
         requires { IsShortDomain domain.now }
         ensures types { IfOk result (λ t. t ≡ domain.now) }
-        ensures passed { IfOk result (λ t. All (Passes domain.now) (checks_of_each type_checks (entries domain.now))) }
-        ensures fault { IfErr result (HasFault domain.now (checks_of_each type_checks (entries domain.now))) }
+        ensures passed { IfOk result (λ t. All (Passes domain.now) (types_rules domain.now)) }
+        ensures fault { IfErr result (HasFault domain.now (types_rules domain.now)) }
     {
         let names = numbered(alloc, domain)?;
         let parents = parents_of(alloc, &names, domain)?;
@@ -111,6 +112,7 @@ impl<'a> Types<'a> {
     }
 
     // Whether the type is, or lies below, the other.
+    #[tactic(auto, unfolding(crate::specs::Types::object_type))]
     fn is_under(&self, name: &str, other: &str) -> bool
         requires known { Contains (type_names self.now) name.now }
         ensures { IsTrue result ↔ LiesUnder self.now name.now other.now }
@@ -146,6 +148,7 @@ impl<'a> Types<'a> {
     }
 
     // Whether a declared type is not `object`, and its chain of parents doesn't return to it.
+    #[tactic(auto, unfolding(crate::specs::Types::object_type))]
     fn is_acyclic(&self, none_returns: bool, name: &str) -> bool
         requires known { IsTrue none_returns → NoneReturns self.now }
         ensures { IsTrue result ↔ Meets self.now (Acyclic name.now) }
@@ -177,9 +180,10 @@ impl<'a> Types<'a> {
     }
 
     // Checks the declared types in text order.
+    #[tactic(auto, unfolding(crate::specs::Parts::types_rules))]
     fn check_entries(&self, alloc: Global) -> Result<(), CheckTypeFault>
-        ensures passed { OnOk result (All (Passes self.now) (checks_of_each type_checks (entries self.now))) }
-        ensures fault { IfErr result (HasFault self.now (checks_of_each type_checks (entries self.now))) }
+        ensures passed { OnOk result (All (Passes self.now) (types_rules self.now)) }
+        ensures fault { IfErr result (HasFault self.now (types_rules self.now)) }
     {
         let none_returns = self.none_returns(alloc)?;
         let domain = self.domain;

@@ -2,7 +2,7 @@ ghost use Rattle.std.specs.Prelude.{◌≡◌, ◌⊎◌, map, Ok, Err, IfOk, If
 ghost use Rattle.pddl_reader.specs.Sections.{Pairwise};
 ghost use Rattle.type_check.specs.Values.{PlainTyped};
 ghost use Rattle.type_check.specs.Rules.{checks_of, IsWellTyped, IsTypeFault};
-ghost use Rattle.type_check.specs.Typing.{IsShortDomain, IsShortProblem, IsTypedPredicate, IsTypedSchema, IsTyped};
+ghost use Rattle.type_check.specs.Typing.{IsShortDomain, IsShortProblem, IsTypedPredicate, IsTypedSchema, IsTyped, ground_atom};
 ghost use Rattle.type_check.specs.Tables.{HasFault, checked_schema};
 
 use crate::faults::{CheckTypeFault, TypeFault};
@@ -45,6 +45,7 @@ fn typed_predicates(
 }
 
 /// The action with its places and its literals.
+#[tactic(auto, unfolding(crate::specs::Tables::checked_schema))]
 fn typed_schema(
     alloc: Global,
     files: &Files<'_>,
@@ -83,6 +84,40 @@ fn typed_schemas(
     Ok(schemas)
 }
 
+/// What a domain and a problem make that meet every rule.
+fn typed<'a>(
+    alloc: Global,
+    domain: &'a Domain,
+    problem: &'a Problem,
+    checked: Checked<'a>,
+) -> Result<Typed, OutOfMemory>
+    requires well_typed { IsWellTyped domain.now problem.now }
+    requires types { checked.types ≡ domain.now }
+    requires actions { checked.actions.items ≡ map (checked_schema domain.now) domain.now.actions }
+    requires init { checked.init.items ≡ map (ground_atom domain.now problem.now) problem.now.init }
+    ensures { IfOk result (IsTyped domain.now problem.now) }
+{
+    let Checked {
+        types,
+        actions,
+        init,
+    } = checked;
+    let files = Files {
+        domain,
+        problem,
+        types,
+    };
+    let objects = typed_objects(alloc, &files)?;
+    let predicates = typed_predicates(alloc, &files, &domain.predicates)?;
+    let schemas = typed_schemas(alloc, &files, &domain.actions, actions)?;
+    Ok(Typed {
+        objects,
+        predicates,
+        schemas,
+        init,
+    })
+}
+
 /// What a domain and a problem make, where they meet every rule.
 fn made(alloc: Global, domain: &Domain, problem: &Problem) -> Result<Typed, CheckTypeFault>
     requires short_domain { IsShortDomain domain.now }
@@ -91,25 +126,8 @@ fn made(alloc: Global, domain: &Domain, problem: &Problem) -> Result<Typed, Chec
     ensures typed { IfOk result (λ t. IsTyped domain.now problem.now t) }
     ensures fault { IfErr result (HasFault domain.now (checks_of domain.now problem.now)) }
 {
-    let Checked {
-        types,
-        actions: literals,
-        init,
-    } = check_rules(alloc, domain, problem)?;
-    let files = Files {
-        domain,
-        problem,
-        types,
-    };
-    let objects = typed_objects(alloc, &files)?;
-    let predicates = typed_predicates(alloc, &files, &domain.predicates)?;
-    let schemas = typed_schemas(alloc, &files, &domain.actions, literals)?;
-    Ok(Typed {
-        objects,
-        predicates,
-        schemas,
-        init,
-    })
+    let checked = check_rules(alloc, domain, problem)?;
+    Ok(typed(alloc, domain, problem, checked)?)
 }
 
 /// Checks that a domain and a problem are well typed, and gives their names numbers. The fault is

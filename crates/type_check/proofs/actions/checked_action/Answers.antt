@@ -1,7 +1,6 @@
 use Rattle.std.proofs.Common.{◌≡◌, ◌≤◌, ◌∙◌, ℕ, List, [], ◌∷◌, ◌++◌, Result, Ok, Err, length, map, sym, ap, subst}
 use mathlib.Core.Path.{ap₂}
 use Rattle.std.specs.Prelude.{All, IfOk}
-use Rattle.std.specs.List.{flat_map}
 use Rattle.std.proofs.lemmas.Result.{IfErr-weaker, on_ok_weaker}
 use Rattle.grd_base.specs.declared.roles.FileRole.TheVariants.{Domain}
 use Rattle.pddl_reader.specs.Forms.{Word}
@@ -9,9 +8,10 @@ use Rattle.pddl_reader.specs.Values.{PlainTypedName, PlainSchema, PlainDomain}
 use Rattle.type_check.specs.declared.faults.CheckTypeFault.{CheckTypeFault}
 use Rattle.type_check.specs.Types.{names_of}
 use Rattle.type_check.specs.Checks.{Passes}
-use Rattle.type_check.specs.Rules.{is_new, few_parameters, names_checks, literal_checks, literals_of, schema_names, action_checks}
+use Rattle.type_check.specs.Rules.{is_new, few_parameters, literals_of, schema_names}
 use Rattle.type_check.specs.Tables.{HasFault, HaveKnownTypes, PlainLiterals, checked_schema}
-use Rattle.type_check.specs.Scopes.{PlainScope, literal_in, typed_literal_in}
+use Rattle.type_check.specs.Scopes.{PlainScope, typed_in, typed_literal_in}
+use Rattle.type_check.specs.Parts.{names_rules, action_rules, literals_rules}
 use Rattle.type_check.proofs.FirstFaults.{fault_passes}
 use Rattle.type_check.proofs.KnownTypes.{known_types}
 use Rattle.type_check.proofs.ActionLaws.{name_fault, few_fault, parameters_fault, few_literals_fault, literals_fault, action_passes}
@@ -26,10 +26,10 @@ module _ (d : PlainDomain) (before : List PlainSchema) (a : PlainSchema) (names 
   few_of : length parameters ≤ 8 → Passes d (few_parameters a.parameters a.name)
   few_of h = subst (λ ps. length ps ≤ 8) same_parameters h
 
-  typed_of : (old : List PlainTypedName) → old ≡ [] → All (Passes d) (names_checks Domain d (names_of old) parameters) → All (Passes d) (names_checks Domain d [] a.parameters)
+  typed_of : (old : List PlainTypedName) → old ≡ [] → All (Passes d) (names_rules Domain d (names_of old) parameters) → All (Passes d) (names_rules Domain d [] a.parameters)
   typed_of old none h =
-      subst (λ ps. All (Passes d) (names_checks Domain d [] ps)) same_parameters
-      (subst (λ os. All (Passes d) (names_checks Domain d (names_of os) parameters)) none h)
+      subst (λ ps. All (Passes d) (names_rules Domain d [] ps)) same_parameters
+      (subst (λ os. All (Passes d) (names_rules Domain d (names_of os) parameters)) none h)
 
 -- the scope of the literals
 scope_is : (d : PlainDomain) (a : PlainSchema) (parameters old read constants : List PlainTypedName)
@@ -43,6 +43,7 @@ schema_is : (r : Result PlainLiterals CheckTypeFault) (d : PlainDomain) (a : Pla
     → s ≡ record { file = Domain; domain = d; parameters = a.parameters; objects = d.constants }
     → IfOk r (λ ls. ls.pre ≡ map (typed_literal_in s) a.pre) → IfOk r (λ ls. ls.effect ≡ map (typed_literal_in s) a.effect)
     → IfOk r (λ ls. ls ≡ checked_schema d a)
+unfolding checked_schema typed_literal_in typed_in
 schema_is (Err f) d a s is pre effect = tt
 schema_is (Ok ls) d a s is pre effect =
     ap₂ (λ p e. let both : PlainLiterals = record { pre = p; effect = e } in both)
@@ -53,7 +54,7 @@ returns-in_err-add_new-clause-fault c before same =
     let d = c.args.types.now in
     let a = c.args.action.now in
     let fault = c.in_err-add_new.field-0.0 in
-    fault_passes d (action_checks d before a) c.from_residual.result fault c.from_residual.ensures.1
+    fault_passes d (action_rules d before a) c.from_residual.result fault c.from_residual.ensures.1
     (name_fault d before a fault
     (subst (λ (b : PlainSchema). HasFault d (is_new Domain (schema_names before) b.name ∷ []) fault) c.action.view_is
     (subst (λ names. HasFault d (is_new Domain names c.action.inside.name ∷ []) fault) same (c.in_err-add_new.ensures.fault d))))
@@ -65,7 +66,7 @@ returns-in_err-check_few-clause-fault c before same =
     let fault = c.in_err-check_few.field-0.0 in
     let same_name = ap (λ (b : PlainSchema). b.name) c.action.view_is in
     let same_parameters = c.deref.ensures.value ∙ ap (λ (b : PlainSchema). b.parameters) c.action.view_is in
-    fault_passes d (action_checks d before a) c.from_residual-in_err-check_few.result fault c.from_residual-in_err-check_few.ensures.1
+    fault_passes d (action_rules d before a) c.from_residual-in_err-check_few.result fault c.from_residual-in_err-check_few.ensures.1
     (few_fault d before a
     (first_of d before a c.args.names.now c.action.inside.name c.deref.result.now same same_name same_parameters (c.in_ok-add_new.ensures.passed d)) fault
     (subst (λ name. HasFault d (few_parameters a.parameters name ∷ []) fault) same_name
@@ -79,12 +80,12 @@ returns-in_err-parameters-clause-fault c before same =
     let same_name = ap (λ (b : PlainSchema). b.name) c.action.view_is in
     let same_parameters = c.deref.ensures.value ∙ ap (λ (b : PlainSchema). b.parameters) c.action.view_is in
     let same_read = c.deref-2.ensures.value ∙ ap (λ (b : PlainSchema). b.parameters) c.action.view_is in
-    fault_passes d (action_checks d before a) c.from_residual-in_err-parameters.result fault c.from_residual-in_err-parameters.ensures.1
+    fault_passes d (action_rules d before a) c.from_residual-in_err-parameters.result fault c.from_residual-in_err-parameters.ensures.1
     (parameters_fault d before a
     (first_of d before a c.args.names.now c.action.inside.name c.deref.result.now same same_name same_parameters (c.in_ok-add_new.ensures.passed d))
     (few_of d before a c.args.names.now c.action.inside.name c.deref.result.now same same_name same_parameters c.in_ok-check_few.ensures.few) fault
-    (subst (λ ps. HasFault d (names_checks Domain d [] ps) fault) same_read
-    (subst (λ old. HasFault d (names_checks Domain d (names_of old) c.deref-2.result.now) fault) c.new.ensures c.in_err-parameters.ensures.fault)))
+    (subst (λ ps. HasFault d (names_rules Domain d [] ps) fault) same_read
+    (subst (λ old. HasFault d (names_rules Domain d (names_of old) c.deref-2.result.now) fault) c.new.ensures c.in_err-parameters.ensures.fault)))
 
 pub returns-in_err-check_few_literals-clause-fault : goal.returns-in_err-check_few_literals-clause-fault
 returns-in_err-check_few_literals-clause-fault c before same =
@@ -94,7 +95,7 @@ returns-in_err-check_few_literals-clause-fault c before same =
     let same_name = ap (λ (b : PlainSchema). b.name) c.action.view_is in
     let same_parameters = c.deref.ensures.value ∙ ap (λ (b : PlainSchema). b.parameters) c.action.view_is in
     let same_read = c.deref-2.ensures.value ∙ ap (λ (b : PlainSchema). b.parameters) c.action.view_is in
-    fault_passes d (action_checks d before a) c.from_residual-in_err-check_few_literals.result fault c.from_residual-in_err-check_few_literals.ensures.1
+    fault_passes d (action_rules d before a) c.from_residual-in_err-check_few_literals.result fault c.from_residual-in_err-check_few_literals.ensures.1
     (few_literals_fault d before a
     (first_of d before a c.args.names.now c.action.inside.name c.deref.result.now same same_name same_parameters (c.in_ok-add_new.ensures.passed d))
     (few_of d before a c.args.names.now c.action.inside.name c.deref.result.now same same_name same_parameters c.in_ok-check_few.ensures.few)
@@ -133,7 +134,7 @@ returns-clause-passed c before same =
     (few_of d before a c.args.names.now c.action.inside.name c.deref.result.now same same_name same_parameters c.in_ok-check_few.ensures.few)
     (typed_of d before a c.args.names.now c.action.inside.name c.deref-2.result.now same same_name same_read c.new.result c.new.ensures c.in_ok-parameters.ensures.passed)
     c.in_ok-check_few_literals.ensures.few
-    (subst (λ (s : PlainScope). All (Passes d) (flat_map (literal_checks s.file d s.parameters s.objects) (literals_of a))) scope passed))
+    (subst (λ (s : PlainScope). All (Passes d) (literals_rules s (literals_of a))) scope passed))
     c.checked_literals.ensures.passed
 
 pub returns-clause-fault : goal.returns-clause-fault
@@ -145,11 +146,11 @@ returns-clause-fault c before same =
     let same_parameters = c.deref.ensures.value ∙ ap (λ (b : PlainSchema). b.parameters) c.action.view_is in
     let same_read = c.deref-2.ensures.value ∙ ap (λ (b : PlainSchema). b.parameters) c.action.view_is in
     let scope = scope_is d a c.in_ok-parameters.parameters c.new.result c.deref-2.result.now c.args.constants.now c.in_ok-parameters.ensures.declared c.new.ensures same_read c.requires.constants in
-    IfErr-weaker c.checked_literals.result (HasFault d (flat_map (literal_in s) (literals_of a))) (HasFault d (action_checks d before a))
+    IfErr-weaker c.checked_literals.result (HasFault d (literals_rules s (literals_of a))) (HasFault d (action_rules d before a))
     (λ fault has. literals_fault d before a
     (first_of d before a c.args.names.now c.action.inside.name c.deref.result.now same same_name same_parameters (c.in_ok-add_new.ensures.passed d))
     (few_of d before a c.args.names.now c.action.inside.name c.deref.result.now same same_name same_parameters c.in_ok-check_few.ensures.few)
     (typed_of d before a c.args.names.now c.action.inside.name c.deref-2.result.now same same_name same_read c.new.result c.new.ensures c.in_ok-parameters.ensures.passed)
     c.in_ok-check_few_literals.ensures.few fault
-    (subst (λ (t : PlainScope). HasFault d (flat_map (literal_checks t.file d t.parameters t.objects) (literals_of a)) fault) scope has))
+    (subst (λ (t : PlainScope). HasFault d (literals_rules t (literals_of a)) fault) scope has))
     c.checked_literals.ensures.fault

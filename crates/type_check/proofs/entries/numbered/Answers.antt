@@ -1,9 +1,10 @@
 use Rattle.std.proofs.Common.{◌≡◌, ap, ◌∙◌, [], ◌∷◌, ◌++◌, map, rules}
-use Rattle.type_check.specs.Types.{object_type, names_of, type_of, firsts}
+use Rattle.type_check.specs.Types.{object_type, names_of, type_of, firsts, type_names}
 use Rattle.type_check.proofs.NameLaws.{firsts-added}
 use Rattle.type_check.proofs.entries.numbered.Goals as goal
 
 pub returns : goal.returns
+unfolding object_type type_names
 returns c =
     let declared : c.as_slice.result.now ≡ c.args.domain.now.types = search rules in
     let again : c.as_slice-2.result.now ≡ c.args.domain.now.types = search rules in

@@ -1,15 +1,15 @@
 use Rattle.std.proofs.Common.{◌≡◌, ◌∙◌, List, [], ◌++◌, map, sym, ap, subst}
 use mathlib.Core.Path.{ap₂}
 use Rattle.std.specs.Prelude.{All, IfOk}
-use Rattle.std.specs.List.{flat_map}
 use Rattle.std.proofs.lemmas.Result.{IfErr-weaker, on_ok_weaker}
 use Rattle.grd_base.specs.declared.roles.FileRole.TheVariants.{Problem}
 use Rattle.pddl_reader.specs.Values.{PlainTypedName, PlainDomain, PlainProblem}
 use Rattle.type_check.specs.Types.{names_of}
 use Rattle.type_check.specs.Checks.{Passes}
-use Rattle.type_check.specs.Rules.{names_checks, literal_checks, all_objects, problem_checks}
+use Rattle.type_check.specs.Rules.{all_objects, problem_checks}
 use Rattle.type_check.specs.Tables.{HasFault, HaveKnownTypes}
-use Rattle.type_check.specs.Scopes.{PlainScope, literal_in, atom_in}
+use Rattle.type_check.specs.Scopes.{PlainScope, object_in, atom_in}
+use Rattle.type_check.specs.Parts.{names_rules, literals_rules}
 use Rattle.type_check.proofs.FirstFaults.{fault_passes}
 use Rattle.type_check.proofs.KnownTypes.{known_types, known_none, known_append}
 use Rattle.type_check.proofs.ProblemLaws.{domain_fault, objects_fault, count_fault, atoms_fault, problem_passes}
@@ -26,11 +26,11 @@ scope_is e d p parameters objects constants read same none behind same_constants
 
 -- the objects are typed, said of the problem
 typed_of : (e d : PlainDomain) (p : PlainProblem) (constants read : List PlainTypedName) → e ≡ d → constants ≡ d.constants → read ≡ p.objects
-    → All (Passes e) (names_checks Problem e (names_of constants) read) → All (Passes d) (names_checks Problem d (names_of d.constants) p.objects)
+    → All (Passes e) (names_rules Problem e (names_of constants) read) → All (Passes d) (names_rules Problem d (names_of d.constants) p.objects)
 typed_of e d p constants read same same_constants same_read h =
-    subst (λ os. All (Passes d) (names_checks Problem d (names_of d.constants) os)) same_read
-    (subst (λ cs. All (Passes d) (names_checks Problem d (names_of cs) read)) same_constants
-    (subst (λ f. All (Passes f) (names_checks Problem f (names_of constants) read)) same h))
+    subst (λ os. All (Passes d) (names_rules Problem d (names_of d.constants) os)) same_read
+    (subst (λ cs. All (Passes d) (names_rules Problem d (names_of cs) read)) same_constants
+    (subst (λ f. All (Passes f) (names_rules Problem f (names_of constants) read)) same h))
 
 pub returns-in_err-check_domain-clause-fault : goal.returns-in_err-check_domain-clause-fault
 returns-in_err-check_domain-clause-fault c =
@@ -47,9 +47,9 @@ returns-in_err-objects-clause-fault c =
     let same_read = c.deref.ensures.value ∙ ap (λ (q : PlainProblem). q.objects) c.problem.view_is in
     fault_passes d (problem_checks d p) c.from_residual-in_err-objects.result fault c.from_residual-in_err-objects.ensures.1
     (objects_fault d p c.in_ok-check_domain.ensures.passed fault
-    (subst (λ os. HasFault d (names_checks Problem d (names_of d.constants) os) fault) same_read
-    (subst (λ cs. HasFault d (names_checks Problem d (names_of cs) c.deref.result.now) fault) c.requires.constants
-    (subst (λ f. HasFault f (names_checks Problem f (names_of c.args.constants) c.deref.result.now) fault) c.requires.types c.in_err-objects.ensures.fault))))
+    (subst (λ os. HasFault d (names_rules Problem d (names_of d.constants) os) fault) same_read
+    (subst (λ cs. HasFault d (names_rules Problem d (names_of cs) c.deref.result.now) fault) c.requires.constants
+    (subst (λ f. HasFault f (names_rules Problem f (names_of c.args.constants) c.deref.result.now) fault) c.requires.types c.in_err-objects.ensures.fault))))
 
 pub returns-in_err-check_count-clause-fault : goal.returns-in_err-check_count-clause-fault
 returns-in_err-check_count-clause-fault c =
@@ -73,6 +73,7 @@ invariant_of-scope c =
     )
 
 pub returns-clause-ground : goal.returns-clause-ground
+unfolding atom_in object_in
 returns-clause-ground c =
     let e = c.args.types.now in
     let d = c.args.domain.now in
@@ -97,8 +98,8 @@ returns-clause-passed c =
     (λ passed. problem_passes d p c.in_ok-check_domain.ensures.passed
     (typed_of e d p c.args.constants c.deref.result.now c.requires.types c.requires.constants same_read c.in_ok-objects.ensures.passed)
     c.in_ok-check_count.ensures.passed
-    (subst (λ (t : PlainScope). All (Passes t.domain) (flat_map (literal_checks t.file t.domain t.parameters t.objects) p.init)) scope
-    (subst (λ ls. All (Passes e) (flat_map (literal_in s) ls)) same_init passed)))
+    (subst (λ (t : PlainScope). All (Passes t.domain) (literals_rules t p.init)) scope
+    (subst (λ ls. All (Passes e) (literals_rules s ls)) same_init passed)))
     c.ground_atoms.ensures.passed
 
 pub returns-clause-fault : goal.returns-clause-fault
@@ -110,10 +111,10 @@ returns-clause-fault c =
     let same_read = c.deref.ensures.value ∙ ap (λ (q : PlainProblem). q.objects) c.problem.view_is in
     let same_init = c.deref-2.ensures.value ∙ ap (λ (q : PlainProblem). q.init) c.problem.view_is in
     let scope = scope_is e d p c.new-no_parameters.result c.in_ok-objects.objects c.args.constants c.deref.result.now c.requires.types c.new-no_parameters.ensures c.in_ok-objects.ensures.declared c.requires.constants same_read in
-    IfErr-weaker c.ground_atoms.result (HasFault e (flat_map (literal_in s) c.deref-2.result.now)) (HasFault d (problem_checks d p))
+    IfErr-weaker c.ground_atoms.result (HasFault e (literals_rules s c.deref-2.result.now)) (HasFault d (problem_checks d p))
     (λ fault has. atoms_fault d p c.in_ok-check_domain.ensures.passed
     (typed_of e d p c.args.constants c.deref.result.now c.requires.types c.requires.constants same_read c.in_ok-objects.ensures.passed)
     c.in_ok-check_count.ensures.passed fault
-    (subst (λ (t : PlainScope). HasFault t.domain (flat_map (literal_checks t.file t.domain t.parameters t.objects) p.init) fault) scope
-    (subst (λ ls. HasFault e (flat_map (literal_in s) ls) fault) same_init has)))
+    (subst (λ (t : PlainScope). HasFault t.domain (literals_rules t p.init) fault) scope
+    (subst (λ ls. HasFault e (literals_rules s ls) fault) same_init has)))
     c.ground_atoms.ensures.fault

@@ -10,6 +10,7 @@ use Rattle.type_check.proofs.LiteralLaws.{literal_fault, literal_passes}
 use Rattle.type_check.proofs.literals.Scope.ground_atom.Goals as goal
 
 pub returns-in_err-objects_of-clause-fault : goal.returns-in_err-objects_of-clause-fault
+unfolding literal_in terms_in
 returns-in_err-objects_of-clause-fault c =
     let s = c.args.self.now in
     let l = c.args.atom.now in
@@ -23,6 +24,7 @@ returns-in_err-objects_of-clause-fault c =
     (subst (λ places. HasFault s.domain (terms_in s (map plain_term c.deref.result.now) places) fault) same_places c.in_err-objects_of.ensures.fault)))
 
 pub returns-clause-passed : goal.returns-clause-passed
+unfolding literal_in terms_in
 returns-clause-passed c =
     let s = c.args.self.now in
     let l = c.args.atom.now in

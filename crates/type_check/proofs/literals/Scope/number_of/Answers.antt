@@ -14,6 +14,7 @@ use Rattle.type_check.proofs.TermLaws.{name_missing, name_misfits, name_fits, fi
 use Rattle.type_check.proofs.literals.Scope.number_of.Goals as goal
 
 pub returns-in_default-clause-fault : goal.returns-in_default-clause-fault
+unfolding named_checks
 returns-in_default-clause-fault c =
     let s = c.args.self.now in
     let w = c.args.name.now in
@@ -25,6 +26,7 @@ returns-in_default-clause-fault c =
     (name_missing s.domain c.args.missing s.file declared w c.args.place.now none)
 
 pub fit-requires : goal.fit-requires
+unfolding named_checks
 fit-requires c =
     let d = c.self.inside.types.now in
     let declared = c.args.declared.now in
@@ -44,6 +46,7 @@ fits {d} {d'} {types} {types'} {others} {others'} {T} same_domain same_types sam
     (subst (λ os. T ↔ FitsTypes d (texts types) (texts os)) same_others h))
 
 pub returns-then-not-fit-clause-fault : goal.returns-then-not-fit-clause-fault
+unfolding named_checks
 returns-then-not-fit-clause-fault c =
     let s = c.args.self.now in
     let w = c.args.name.now in
@@ -60,6 +63,7 @@ returns-then-not-fit-clause-fault c =
     (λ yes_fits. true≢false (sym (fit.1 yes_fits) ∙ c.if-not-fit.true)))
 
 pub returns-clause-passed : goal.returns-clause-passed
+unfolding named_checks
 returns-clause-passed c =
     let s = c.args.self.now in
     let w = c.args.name.now in

@@ -14,6 +14,7 @@ use Rattle.type_check.proofs.LiteralLaws.{predicate_missing, count_differs}
 use Rattle.type_check.proofs.literals.Scope.predicate_of.Goals as goal
 
 pub returns-in_default-clause-fault : goal.returns-in_default-clause-fault
+unfolding literal_in
 returns-in_default-clause-fault c =
     let s = c.args.self.now in
     let l = c.args.literal.now in
@@ -27,6 +28,7 @@ returns-in_default-clause-fault c =
     (subst (λ qs. Contains (predicate_names qs) c.as_str.result.now → ⊥) same_predicates c.in_default.ensures.none)))
 
 pub returns-then-len-clause-fault : goal.returns-then-len-clause-fault
+unfolding literal_in
 returns-then-len-clause-fault c =
     let s = c.args.self.now in
     let l = c.args.literal.now in

@@ -4,12 +4,13 @@ use Rattle.std.proofs.lemmas.Slice.Zip.{zip_turn, zip_end}
 use Rattle.std.proofs.lemmas.List.{length-map, length_push, take_all}
 use Rattle.pddl_reader.specs.Terms.{plain_term}
 use Rattle.type_check.specs.Checks.{Passes}
-use Rattle.type_check.specs.Scopes.{typed_in, terms_in}
+use Rattle.type_check.specs.Scopes.{typed_in, terms_in, term_in}
 use Rattle.type_check.proofs.FirstFaults.{fault_passes}
 use Rattle.type_check.proofs.TermLaws.{next_passed, next_fault, next_typed}
 use Rattle.type_check.proofs.literals.Scope.typed_terms.Goals as goal
 
 pub returns-in_err-typed_term-clause-fault : goal.returns-in_err-typed_term-clause-fault
+unfolding terms_in term_in
 returns-in_err-typed_term-clause-fault c =
     let s = c.args.self.now in
     let terms = c.args.terms.now in
@@ -23,6 +24,7 @@ returns-in_err-typed_term-clause-fault c =
     c.loop-term.invariant.passed c.in_err-typed_term.ensures.fault)
 
 pub loop-term-preserved : goal.loop-term-preserved
+unfolding terms_in term_in
 loop-term-preserved c =
     let s = c.args.self.now in
     let terms = c.args.terms.now in
@@ -40,6 +42,7 @@ loop-term-preserved c =
     }
 
 pub returns-clause-passed : goal.returns-clause-passed
+unfolding terms_in term_in
 returns-clause-passed c =
     let s = c.args.self.now in
     let terms = c.args.terms.now in

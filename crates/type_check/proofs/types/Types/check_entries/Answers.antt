@@ -3,12 +3,14 @@ use Rattle.type_check.specs.Types.{is_entry, names_of}
 use Rattle.type_check.specs.Checks.{Passes}
 use Rattle.type_check.specs.Rules.{type_checks, checks_of_each}
 use Rattle.type_check.specs.Tables.{HasFault}
+use Rattle.type_check.specs.Parts.{types_rules}
 use Rattle.type_check.proofs.FirstFaults.{fault_passes}
 use Rattle.type_check.proofs.EntryLaws.{names_more, passed_more, fault_more, entries_same}
 use Rattle.type_check.proofs.types.Types.check_entries.Goals as goal
 use Rattle.type_check.proofs.types.Types.check_entries.Goals.{then-is_entry+in_ok-check_entry, else-is_entry}
 
 pub returns-in_err-check_entry-clause-fault : goal.returns-in_err-check_entry-clause-fault
+unfolding types_rules
 returns-in_err-check_entry-clause-fault c =
     let d = c.args.self.now in
     let items = c.deref-n-items.result.now in
@@ -16,7 +18,7 @@ returns-in_err-check_entry-clause-fault c =
     let fault = c.in_err-check_entry.field-0.0 in
     let here = c.in_err-check_entry.ensures.fault (filter is_entry (take c.loop-n.n-index items)) c.loop-n.invariant.0 in
     let all = fault_more d items c.loop-n.n-index c.n-item.result c.loop-n-test.true c.n-item.is (sym c.if-is_entry.ensures) fault c.loop-n.invariant.1 here in
-    fault_passes d (checks_of_each type_checks (filter is_entry d.types)) c.from_residual-in_err-check_entry.result fault c.from_residual-in_err-check_entry.ensures.1
+    fault_passes d (types_rules d) c.from_residual-in_err-check_entry.result fault c.from_residual-in_err-check_entry.ensures.1
     (subst (λ xs. HasFault d (checks_of_each type_checks (filter is_entry xs)) fault) types all)
 
 pub loop-n-preserved : goal.loop-n-preserved
