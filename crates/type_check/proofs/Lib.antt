@@ -13,6 +13,7 @@ mod TermLaws
 mod LiteralLaws
 mod ParentLaws
 mod TypeLaws
+mod TypeRows
 mod CountLaws
 mod FitLaws
 mod KnownTypes

@@ -1,5 +1,5 @@
 -- The parents that entries give, by numbers.
-use Rattle.std.proofs.Common.{◌≡◌, ℕ, ◌+◌, ◌-◌, ◌<◌, ◌≤◌, ◌⊎◌, true, false, cond, List, [], ◌∷◌, length, get_or, set, filter, drop, Option, Some, None, Contains, refl, sym, ap, ◌∙◌, inl, inr, arith}
+use Rattle.std.proofs.Common.{◌≡◌, ℕ, ◌+◌, ◌-◌, ◌<◌, ◌≤◌, ◌⊎◌, false, cond, List, [], ◌∷◌, length, get_or, set, filter, drop, Option, Some, None, Contains, refl, sym, ap, ◌∙◌, inl, inr, arith}
 use Rattle.std.specs.List.{IsDistinct}
 use Rattle.std.specs.Option.{option_map}
 use Rattle.std.specs.Str.{bytes_eq}
@@ -67,9 +67,6 @@ module _ (xs : List PlainTypedName) (j : ℕ) (x : PlainTypedName) (past : 0 < j
   next =
       let one : (j - 1) + 1 ≡ j = omega (arith, past) in
       drop_more xs (j - 1) x (omega (arith, past, within)) ∙ ap (λ y. y ∷ drop ((j - 1) + 1) xs) (sym is) ∙ ap (λ k. x ∷ drop k xs) one
-
-  pub entries_from : is_entry x ≡ true → filter is_entry (drop (j - 1) xs) ≡ x ∷ filter is_entry (drop j xs)
-  entries_from entry = ap (filter is_entry) next ∙ ap (λ b. cond b (x ∷ filter is_entry (drop j xs)) (filter is_entry (drop j xs))) entry
 
   pub entries_kept : is_entry x ≡ false → filter is_entry (drop (j - 1) xs) ≡ filter is_entry (drop j xs)
   entries_kept entry = ap (filter is_entry) next ∙ ap (λ b. cond b (x ∷ filter is_entry (drop j xs)) (filter is_entry (drop j xs))) entry

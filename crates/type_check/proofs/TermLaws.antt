@@ -38,11 +38,13 @@ module _ (d : PlainDomain) (missing : TypeKind) (file : FileRole) (declared : Li
   fits_place n = record { need = Fits (texts n.types) (texts place.types); fault = fault_at WrongType file w.at }
 
   pub name_missing : (Contains (names_of declared) w.text → ⊥) → HasFault d (named_checks missing file declared w place) (Typing (fault_at missing file w.at))
+  unfolding named_checks
   name_missing none = fault_here d is_declared (fit_checks file w (find_name declared w.text) place) none
 
   pub name_misfits : (n : PlainTypedName) → Contains (names_of declared) w.text → find_name declared w.text ≡ Some n
       → (FitsTypes d (texts n.types) (texts place.types) → ⊥)
       → HasFault d (named_checks missing file declared w place) (Typing (fault_at WrongType file w.at))
+  unfolding named_checks
   name_misfits n has found misfits =
       subst (λ o. HasFault d (is_declared ∷ fit_checks file w o place) (Typing (fault_at WrongType file w.at))) (sym found)
       (fault_second d is_declared (fits_place n) [] (Typing (fault_at WrongType file w.at)) has (fault_here d (fits_place n) [] misfits))
@@ -50,6 +52,7 @@ module _ (d : PlainDomain) (missing : TypeKind) (file : FileRole) (declared : Li
   pub name_fits : (n : PlainTypedName) → Contains (names_of declared) w.text → find_name declared w.text ≡ Some n
       → FitsTypes d (texts n.types) (texts place.types)
       → All (Passes d) (named_checks missing file declared w place)
+  unfolding named_checks
   name_fits n has found fits =
       subst (λ o. All (Passes d) (is_declared ∷ fit_checks file w o place)) (sym found)
       (All-cons (Passes d) is_declared (fits_place n ∷ []) has (passed_one d (fits_place n) fits))
