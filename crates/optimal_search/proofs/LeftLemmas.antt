@@ -1,10 +1,13 @@
 -- Each pass leaves less to find out.
-use Rattle.std.proofs.Common.{◌≡◌, ℕ, ◌+◌, ◌-◌, ◌*◌, ◌<◌, ◌≤◌, length, Option, Some, None, sym, arith, subst, Vec, Global}
+use Rattle.std.proofs.Common.{◌≡◌, ℕ, ◌+◌, ◌-◌, ◌*◌, ◌<◌, ◌≤◌, length, Bool, Option, Some, None, sym, arith, subst, Vec, Global}
 use Rattle.std.specs.Prelude.{IfSome}
 use Rattle.std.specs.Option.{option_map_or}
 use Rattle.grd_base.specs.declared.ids.ActionId.{ActionId}
+use Rattle.grd_base.specs.declared.limits.Bound.{Bound}
+use Rattle.search_core.specs.Spaces.{Successors}
+use Rattle.search_core.specs.Answers.{IsDonePath}
 use Rattle.optimal_search.specs.declared.least.Known.{Known}
-use Rattle.optimal_search.specs.Least.{left_of}
+use Rattle.optimal_search.specs.Least.{IsKnown, left_of}
 
 -- the length of a path, or a number where there is none
 abbrev pub length_or : ℕ → Option (Vec ActionId Global) → ℕ
@@ -43,3 +46,12 @@ module _ {S M : Type 0} (last : ℕ) (old new : Known S M) (r : ℕ) where
   alike_less near ahead low path =
       let Less : Option (Vec ActionId Global) → Type 0 = λ p. 2 * (last + 1 - new.low) + new.ahead + length_or (last + 1) p < left_of last old in
       subst Less (sym path) (ahead_less last old.low old.ahead r (length_or (last + 1) old.path) new.low new.ahead near ahead low)
+
+-- a path that was found has at most the steps of the longest pass
+pub path_within : {S M : Type 0} (next : Successors S) (is_done : S → Bool) (level : S → Option ℕ) (shows : S → M → Bound → Type 0) (start : S) (limit last : ℕ) (known : Known S M)
+    → limit ≤ last → IsKnown next is_done level shows start limit last known → IfSome known.path (λ path. length path.items ≤ last)
+path_within next is_done level shows start limit last known fits is = by known.path is.path
+  where
+    by : (path : Option (Vec ActionId Global)) → IfSome path (λ p. IsDonePath next is_done start (length p.items) limit p.items × (known.low ≤ length p.items)) → IfSome path (λ p. length p.items ≤ last)
+    by None h = tt
+    by (Some path) h = omega (arith, fits, h.0.within_limit)
