@@ -53,6 +53,20 @@ fn expect_fault(
     expect_run(rt, alloc, words, texts, ends(1, line))
 }
 
+/// Both `cost` and `show` over these files end with the line of a refused file.
+fn expect_faults(
+    rt: &impl Abort,
+    alloc: Global,
+    domain: &str,
+    problem: &str,
+    line: &str,
+) -> Result<(), Fail> {
+    for words in [COST, SHOW] {
+        expect_fault(rt, alloc, words, domain, problem, line)?;
+    }
+    Ok(())
+}
+
 #[test]
 fn faulty_files_are_told_by_their_places(rt: HostRuntime) -> Result<(), Fail> {
     let deep = padded(rt.alloc(), "", '(', 65)?;
@@ -88,9 +102,7 @@ fn faulty_files_are_told_by_their_places(rt: HostRuntime) -> Result<(), Fail> {
             "grd: problem: byte 43: doubled section\n",
         ),
     ] {
-        for words in [COST, SHOW] {
-            expect_fault(&rt, rt.alloc(), words, domain, problem, line)?;
-        }
+        expect_faults(&rt, rt.alloc(), domain, problem, line)?;
     }
     Ok(())
 }
