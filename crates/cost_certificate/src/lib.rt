@@ -17,6 +17,3 @@ pub use laws::rows_refute;
 pub use order::is_enough;
 pub use rows::{Row, Table, Why};
 pub use table::valid_table;
-
-#[cfg(test)]
-mod tests;

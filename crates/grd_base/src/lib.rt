@@ -15,6 +15,3 @@ pub use ids::{ActionId, AtomId, GoalId};
 pub use limits::{Bound, Limits};
 pub use memory::OutOfMemory;
 pub use roles::FileRole;
-
-#[cfg(test)]
-mod tests;

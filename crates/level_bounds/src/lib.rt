@@ -5,6 +5,3 @@ mod floor;
 mod wave;
 
 pub use floor::LevelFloor;
-
-#[cfg(test)]
-mod tests;

@@ -6,6 +6,3 @@ mod laws;
 
 pub use compile::observed;
 pub use laws::plans_embed;
-
-#[cfg(test)]
-mod tests;

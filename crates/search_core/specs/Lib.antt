@@ -3,4 +3,3 @@ pub mod Tables
 pub mod Answers
 pub mod Progress
 pub mod Visits
-pub mod TestFloors

@@ -12,6 +12,3 @@ pub use bounded::within;
 pub use faults::SearchFault;
 pub use rows::{KeptRow, WithinAnswer};
 pub use space::{Floor, Space};
-
-#[cfg(test)]
-mod tests;

@@ -4,6 +4,3 @@
 mod store;
 
 pub use store::StateStore;
-
-#[cfg(test)]
-mod tests;

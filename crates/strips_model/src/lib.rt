@@ -16,6 +16,3 @@ pub use moves::Moves;
 pub use steps::{advance, applies, apply_in, contains_all, embeds, holds, run_plan, start};
 pub use task::{Action, Condition, Task, fits, known_task};
 pub use witness::Witness;
-
-#[cfg(test)]
-mod tests;

@@ -5,6 +5,3 @@ mod needs;
 mod table;
 
 pub use table::SuccTable;
-
-#[cfg(test)]
-mod tests;

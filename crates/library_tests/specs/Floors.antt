@@ -1,5 +1,4 @@
--- For the tests alone: their floors lie between a level of 0 and the least number of steps to a done
--- state.
+-- Floors of the tests: they lie between a level of 0 and the least number of steps to a done state.
 use Rattle.std.proofs.Common.{◌≡◌, ℕ, zero, suc, ◌≤◌, List, [], ◌∷◌, length, refl, sym, subst, ap, ◌∙◌, Some, Option, Bool, true, false, true≢false, arith}
 use Rattle.std.specs.Prelude.{Contains}
 use Rattle.std.proofs.lemmas.List.{length-map}

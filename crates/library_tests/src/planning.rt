@@ -1,0 +1,10 @@
+//! Tests of the crates that plan.
+
+mod levels;
+mod numbering;
+mod observed;
+mod search;
+mod sets;
+mod successors;
+mod tables;
+mod tasks;

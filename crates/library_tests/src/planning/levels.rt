@@ -1,0 +1,75 @@
+use crate::samples::{FORK_OF_FOUR, goal, state, task};
+use grd_base::{ActionId, ActionSet, AtomId, Bits, Bound, GoalId};
+use level_bounds::LevelFloor;
+use std::alloc::Global;
+use std::test::Fail;
+use strips_model::{Task, start, state_of};
+
+// The level of the goal of fork at the state that has these atoms alone, without the removed actions.
+fn level(alloc: Global, number: u32, removed: &[ActionId], atoms: &[u32]) -> Result<Bound, Fail> {
+    let task = task(alloc, &FORK_OF_FOUR)?;
+    let goal = goal(&task, number)?;
+    let removed = ActionSet::from_list(alloc, removed)?;
+    let s = state(task.atoms, atoms)?;
+    let floor = LevelFloor::new(alloc, &task, goal, &removed)?;
+    Ok(floor.bound_at(alloc, &s)?)
+}
+
+// The sets that show the level of the goal of fork at the start, without the removed actions.
+fn sets(alloc: Global, number: u32, removed: &[ActionId]) -> Result<Vec<Vec<AtomId>>, Fail> {
+    let task = task(alloc, &FORK_OF_FOUR)?;
+    let goal = goal(&task, number)?;
+    let removed = ActionSet::from_list(alloc, removed)?;
+    let floor = LevelFloor::new(alloc, &task, goal, &removed)?;
+    let family = floor.family_at(alloc, &start::<1>(&task))?;
+    Ok(family.sets)
+}
+
+fn are(found: &[Vec<AtomId>], wanted: &[&[AtomId]]) -> bool {
+    found.len() == wanted.len()
+        && found
+            .iter()
+            .zip(wanted)
+            .all(|(set, atoms)| set.as_slice() == *atoms)
+}
+
+const B: ActionId = ActionId(1);
+
+const AT0: AtomId = AtomId(0);
+
+const AT1: AtomId = AtomId(1);
+
+const AT2: AtomId = AtomId(2);
+
+// Both ends are reached in one round, whatever plans do. Without its middle neither is.
+#[test]
+fn levels_of_fork(rt: HostRuntime) -> Result<(), Fail> {
+    let rows: [(u32, &[ActionId], &[u32], Bound); 5] = [
+        (0, &[], &[0], Bound::Steps(3)),
+        (0, &[], &[2], Bound::Steps(1)),
+        (2, &[], &[0], Bound::Steps(0)),
+        (3, &[], &[0], Bound::Steps(3)),
+        (0, &[B], &[0], Bound::Never),
+    ];
+    for (goal, removed, atoms, wanted) in rows {
+        assert_eq!(rt;
+            level(rt.alloc(), goal, removed, atoms)?,
+            wanted,
+            "goal {goal}"
+        );
+    }
+    Ok(())
+}
+
+#[test]
+fn sets_show_the_levels_of_fork(rt: HostRuntime) -> Result<(), Fail> {
+    let rows: [(&[ActionId], &[&[AtomId]]); 2] = [
+        (&[], &[&[AT0], &[AT0, AT1], &[AT0, AT1, AT2]]),
+        (&[B], &[&[AT0, AT1]]),
+    ];
+    for (removed, wanted) in rows {
+        let found = sets(rt.alloc(), 0, removed)?;
+        assert!(rt; are(&found, wanted), "{found:?}");
+    }
+    Ok(())
+}

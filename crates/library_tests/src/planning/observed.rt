@@ -1,0 +1,131 @@
+ghost use Rattle.std.specs.Prelude.{◌≤◌, IfOk, length};
+
+use crate::samples::{FORK, task};
+use grd_base::{ActionId, AtomId};
+use observation_compile::{observed, plans_embed};
+use std::alloc::Global;
+use std::test::Fail;
+use strips_model::{Action, Condition, Task};
+
+const A: ActionId = ActionId(0);
+
+const L: ActionId = ActionId(2);
+
+// Fork, observed.
+fn made(alloc: Global, observations: &[ActionId]) -> Result<Task, Fail> {
+    let task = task(alloc, &FORK)?;
+    if observations.len() > 32 {
+        return Err("few observations")?;
+    }
+    Ok(observed(alloc, &task, observations)?)
+}
+
+// How many atoms, actions and goals there are.
+fn counts(alloc: Global, observations: &[ActionId]) -> Result<(u32, usize, usize), Fail> {
+    let made = made(alloc, observations)?;
+    Ok((made.atoms, made.actions.len(), made.goals.len()))
+}
+
+// What an action needs, adds and deletes.
+type Lists = (&'static [AtomId], &'static [AtomId], &'static [AtomId]);
+
+// Whether the action with this number has these lists and is blocked or not.
+fn has_action(
+    alloc: Global,
+    observations: &[ActionId],
+    number: usize,
+    lists: Lists,
+    blocked: bool,
+) -> Result<bool, Fail> {
+    let made = made(alloc, observations)?;
+    let action = made.actions.get(number).ok_or("an action")?;
+    Ok(
+        action.blocked == blocked
+            && action.pre.as_slice() == lists.0
+            && action.add.as_slice() == lists.1
+            && action.del.as_slice() == lists.2,
+    )
+}
+
+// The atoms of the goal with this number.
+fn goal_atoms(
+    alloc: Global,
+    observations: &[ActionId],
+    number: usize,
+) -> Result<Vec<AtomId>, Fail> {
+    let made = made(alloc, observations)?;
+    let goal = made.goals.get(number).ok_or("a goal")?;
+    Ok(Vec::from_slice(alloc, goal.atoms.as_slice())?)
+}
+
+#[test]
+fn each_observation_has_an_atom_and_an_action(rt: HostRuntime) -> Result<(), Fail> {
+    let rows: [(&[ActionId], (u32, usize, usize)); 3] = [
+        (&[], (5, 4, 2)),
+        (&[A, L], (7, 6, 2)),
+        (&[ActionId(9)], (6, 5, 2)),
+    ];
+    for (observations, wanted) in rows {
+        assert_eq!(rt;
+            counts(rt.alloc(), observations)?,
+            wanted,
+            "{observations:?}"
+        );
+    }
+    let made = made(rt.alloc(), &[A, L])?;
+    assert!(rt; made.init.as_slice() == [AtomId(0)].as_slice());
+    plans_embed();
+    Ok(())
+}
+
+// The copy of no action is blocked.
+#[test]
+fn copies_need_and_add_the_atoms_of_observations(rt: HostRuntime) -> Result<(), Fail> {
+    let rows: [(&[ActionId], usize, Lists, bool); 4] = [
+        (
+            &[A, L],
+            0,
+            (&[AtomId(0)], &[AtomId(1)], &[AtomId(0)]),
+            false,
+        ),
+        (
+            &[A, L],
+            4,
+            (&[AtomId(0)], &[AtomId(1), AtomId(5)], &[AtomId(0)]),
+            false,
+        ),
+        (
+            &[A, L],
+            5,
+            (
+                &[AtomId(2), AtomId(5)],
+                &[AtomId(3), AtomId(6)],
+                &[AtomId(2)],
+            ),
+            false,
+        ),
+        (&[ActionId(9)], 4, (&[], &[AtomId(5)], &[]), true),
+    ];
+    for (observations, number, lists, blocked) in rows {
+        let has = has_action(rt.alloc(), observations, number, lists, blocked)?;
+        assert!(rt; has, "action {number} of {observations:?}");
+    }
+    Ok(())
+}
+
+#[test]
+fn goals_need_the_last_observation(rt: HostRuntime) -> Result<(), Fail> {
+    let rows: [(&[ActionId], usize, &[AtomId]); 3] = [
+        (&[A, L], 0, &[AtomId(3), AtomId(6)]),
+        (&[A, L], 1, &[AtomId(4), AtomId(6)]),
+        (&[], 0, &[AtomId(3)]),
+    ];
+    for (observations, number, wanted) in rows {
+        let found = goal_atoms(rt.alloc(), observations, number)?;
+        assert!(rt;
+            found.as_slice() == wanted,
+            "goal {number} of {observations:?}: {found:?}"
+        );
+    }
+    Ok(())
+}
