@@ -1,5 +1,7 @@
 //! Tests of the crates that plan.
 
+mod common;
+mod costs;
 mod levels;
 mod numbering;
 mod observed;
@@ -8,3 +10,4 @@ mod sets;
 mod successors;
 mod tables;
 mod tasks;
+mod verdicts;

@@ -13,6 +13,3 @@ pub use cost::costs;
 pub use cost_certificate::CostFound;
 pub use faults::GoalSearchFault;
 pub use oracle::Oracle;
-
-#[cfg(test)]
-mod tests;

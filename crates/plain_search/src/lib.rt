@@ -12,8 +12,3 @@ mod walk;
 
 pub use common::wcd;
 pub use plans::plans_of;
-
-#[cfg(test)]
-mod common_tests;
-#[cfg(test)]
-mod tests;

@@ -1,13 +1,13 @@
 -- What an oracle of the observed task, asked from its start within the cost, says of the verdict.
 use mathlib.Core.Path.{ap₂}
-use Rattle.std.proofs.Common.{◌≡◌, ◌↔◌, ◌⊎◌, inl, inr, ℕ, zero, suc, ◌≤◌, ◌<◌, Vec, Global, Result, Ok, Err, List, [], ◌∷◌, ◌++◌, length, map, get_or, eqb, refl, sym, ap, subst, ◌∙◌, arith, Option, Some, None}
-use Rattle.std.specs.Prelude.{All, IfOk, IsErrAnd, slice_get}
+use Rattle.std.proofs.Common.{◌≡◌, ◌↔◌, ◌⊎◌, inl, inr, ℕ, zero, suc, ◌≤◌, ◌<◌, Result, Ok, Err, List, [], ◌∷◌, ◌++◌, length, map, get_or, eqb, refl, sym, ap, subst, ◌∙◌, arith, Option, Some, None}
+use Rattle.std.specs.Prelude.{All, IsErrAnd, slice_get}
 use Rattle.std.specs.Option.{option_map_or}
 use Rattle.std.proofs.lemmas.Bool.{ne_eqb}
 use Rattle.std.proofs.lemmas.List.{length-map}
-use Rattle.std.proofs.lemmas.List.Elements.{All-nil, All-weaker}
+use Rattle.std.proofs.lemmas.List.Elements.{All-weaker}
 use Rattle.std.proofs.lemmas.List.Folds.{list_any_none}
-use Rattle.std.proofs.lemmas.Option.{slice_get_within, slice_get-get_or}
+use Rattle.std.proofs.lemmas.Option.{slice_get-get_or}
 use Rattle.grd_base.specs.declared.ids.AtomId.{AtomId}
 use Rattle.grd_base.specs.declared.ids.ActionId.{ActionId}
 use Rattle.grd_base.specs.declared.ids.GoalId.{GoalId}
@@ -17,7 +17,6 @@ use Rattle.strips_model.specs.Values.{PlainTask, IsTask}
 use Rattle.strips_model.specs.Plans.{State, start_of, Reaches, IsPlan, IsCost, IsOptimal, IsOver, Embeds}
 use Rattle.strips_model.specs.Reached.{IsNearWithin}
 use Rattle.cost_certificate.specs.declared.found.Verdict.{Verdict}
-use Rattle.cost_certificate.specs.declared.found.Verdict.TheVariants.{No}
 use Rattle.cost_certificate.specs.Found.{PlainCost}
 use Rattle.cost_certificate.specs.Rows.{PlainRow}
 use Rattle.cost_certificate.specs.Tables.{HasRow, IsRowOver, IsValidTable}
@@ -146,17 +145,3 @@ module _ (t : PlainTask) (os : List ActionId) (costs : List PlainCost) (i : ℕ)
             let last : IsRightVerdict t os (record { 0 = i }) z.cost verdict = subst (λ (v : Verdict). IsRightVerdict t os (record { 0 = i }) z.cost v) new.1 one in
             subst (λ (n : ℕ). IsRightVerdict t os (record { 0 = n }) z.cost verdict) (sym k_is) last
       ]
-
--- the rows of a right verdict have atoms of the observed task alone
-rows_over : (t : PlainTask) (os : List ActionId) (g : GoalId) (least : Option ℕ) (table : List PlainRow) → IsRightVerdict t os g least (No table) → All (IsRowOver (observed_task t os)) table
-rows_over t os g None table is = subst (λ (xs : List PlainRow). All (IsRowOver (observed_task t os)) xs) (sym is.1) (All-nil (IsRowOver (observed_task t os)))
-rows_over t os g (Some c) table is = is.1.2
-
--- so have those of all verdicts
-pub all_over : {E : Type 0} (t : PlainTask) (os : List ActionId) (costs : List PlainCost) (n : ℕ) (r : Result (Vec Verdict Global) E) → length costs ≡ n → IfOk r (λ found. length found.items ≡ n) → IfOk r (λ found. AreRight t os costs found.items)
-    → IfOk r (λ found. (k : ℕ) (table : List PlainRow) → slice_get found.items k ≡ Some (No table) → All (IsRowOver (observed_task t os)) table)
-all_over t os costs n (Err e) each long right = tt
-all_over t os costs n (Ok found) each long right = λ k table at.
-    let none : PlainCost = record { cost = None; plan = []; table = [] } in
-    let low : k < length costs = omega (arith, each, long, slice_get_within found.items k (No table) at) in
-    rows_over t os (record { 0 = k }) (get_or costs k none).cost table (right k (get_or costs k none) (No table) (slice_get-get_or costs k none low) at)

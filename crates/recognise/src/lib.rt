@@ -5,6 +5,3 @@ mod verdicts;
 
 pub use cost_certificate::Verdict;
 pub use verdicts::recognise;
-
-#[cfg(test)]
-mod tests;

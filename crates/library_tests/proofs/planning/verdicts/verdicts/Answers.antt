@@ -1,8 +1,8 @@
 -- The costs are those of the goals, and the rows of right verdicts are over the observed task.
 use Rattle.std.proofs.Common.{length, ◌∙◌, sym, ap}
 use Rattle.std.specs.Prelude.{slice_get}
-use Rattle.recognise.proofs.VerdictLemmas.{all_over}
-use Rattle.recognise.proofs.tests.verdicts_within.Goals as goal
+use Rattle.library_tests.proofs.VerdictRows.{all_over}
+use Rattle.library_tests.proofs.planning.verdicts.verdicts.Goals as goal
 
 pub recognise-requires-clause-right : goal.recognise-requires-clause-right
 recognise-requires-clause-right c = λ k x at. (c.in_ok-found.ensures.right k x (ap (λ xs. slice_get xs k) (sym c.as_slice.ensures.value) ∙ at)).cost
