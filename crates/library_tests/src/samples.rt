@@ -80,7 +80,8 @@ macro_rules! all_of {
     };
 }
 
-/// From atom 0 by action 0 to 1, and by 1 to 2, and from there by 2 to 3 or by 3 to 4. The goals are the two ends.
+/// From atom 0 by action 0 to 1, and by 1 to 2, and from there by 2 to 3 or by 3 to 4. The goals are the
+/// two ends.
 pub(crate) const FORK: Sample = Sample {
     atoms: 5,
     init: &[0],
@@ -121,8 +122,9 @@ pub(crate) const FORK_OF_ONE: Sample = Sample {
     ..FORK_OF_TWO
 };
 
-/// Fork with two dead ends: from atom 0 by action 4 to 6 or by 5 to 7. Nothing leads to atom 5. The goals are the ends, and
-/// both at once: the level of that goal is a number at atoms 0, 1 and 2 alone, and no plan reaches it.
+/// Fork with two dead ends: from atom 0 by action 4 to 6 or by 5 to 7. Nothing leads to atom 5. The goals
+/// are the ends, and both at once: the level of that goal is a number at atoms 0, 1 and 2 alone, and no
+/// plan reaches it.
 pub(crate) const FORK_WITH_DEAD_ENDS: Sample = Sample {
     atoms: 8,
     init: &[0],
@@ -149,8 +151,8 @@ pub(crate) const FORK_WITH_NEAR_GOAL: Sample = Sample {
     ..FORK_WITH_DEAD_ENDS
 };
 
-/// From atom 0 by action 0 to 1, and by action 1 to 2; from there by action 2 to 3 and by action 3 to 4. Its goals are the
-/// atoms 1, 3 and 4.
+/// From atom 0 by action 0 to 1, and by action 1 to 2; from there by action 2 to 3 and by action 3 to 4.
+/// Its goals are the atoms 1, 3 and 4.
 pub(crate) const LATE_FORK: Sample = Sample {
     atoms: 5,
     init: &[0],
@@ -163,8 +165,8 @@ pub(crate) const LATE_FORK: Sample = Sample {
     goals: &[all_of!([1]), all_of!([3]), all_of!([4])],
 };
 
-/// From atom 0 by action 0 to 1 and by action 1 to 2; from 1 by action 2, and from 2 by action 3, to 3; from 2 by action 4
-/// to 4. Its goals are the atoms 3 and 4.
+/// From atom 0 by action 0 to 1 and by action 1 to 2; from 1 by action 2, and from 2 by action 3, to 3;
+/// from 2 by action 4 to 4. Its goals are the atoms 3 and 4.
 pub(crate) const TWO_WAYS: Sample = Sample {
     atoms: 5,
     init: &[0],
@@ -178,8 +180,8 @@ pub(crate) const TWO_WAYS: Sample = Sample {
     goals: &[all_of!([3]), all_of!([4])],
 };
 
-/// Fork with three goals: its left end, its start and its left end at once, and one with static atoms alone, of which
-/// one is false.
+/// Fork with three goals: its left end, its start and its left end at once, and one with static atoms
+/// alone, of which one is false.
 pub(crate) const FORK_WITH_SHUT_GOAL: Sample = Sample {
     goals: &[
         all_of!([3]),
@@ -192,8 +194,8 @@ pub(crate) const FORK_WITH_SHUT_GOAL: Sample = Sample {
     ..FORK
 };
 
-/// Keep: its action needs atom 0, deletes it, and adds 0 and 1, which are its goal. Action 1 and goal 1 are the same,
-/// but blocked.
+/// Keep: its action needs atom 0, deletes it, and adds 0 and 1, which are its goal. Action 1 and goal 1
+/// are the same, but blocked.
 pub(crate) const KEEP: Sample = Sample {
     atoms: 2,
     init: &[0],
@@ -207,8 +209,8 @@ pub(crate) const KEEP: Sample = Sample {
     ],
 };
 
-/// From atom 0 by action 0 to 1 and by 1 to 2, and from there by 2 to 3 or by 3 to 4. Action 4 needs nothing, 5 needs
-/// atoms 0 and 2, and 6 is blocked. Nothing is deleted, and there is no goal.
+/// From atom 0 by action 0 to 1 and by 1 to 2, and from there by 2 to 3 or by 3 to 4. Action 4 needs
+/// nothing, 5 needs atoms 0 and 2, and 6 is blocked. Nothing is deleted, and there is no goal.
 pub(crate) const FORK_THAT_KEEPS: Sample = Sample {
     atoms: 5,
     init: &[0],

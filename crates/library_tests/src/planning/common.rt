@@ -68,8 +68,9 @@ fn has_common(alloc: Global, sample: &Sample, wanted: Option<Plain>) -> Result<b
     }
 }
 
-// Fork's goals are told apart at its branch, equal goals never, and later goals may share more than the first. One goal
-// with a plan shares with none. In the last task the shortest plan that is found for the first goal is by the other way.
+// Fork's goals are told apart at its branch, equal goals never, and later goals may share more than the
+// first. One goal with a plan shares with none. In the last task the shortest plan that is found for the
+// first goal is by the other way.
 #[test]
 fn longest_sequences_are_common_to_two_goals(rt: HostRuntime) -> Result<(), Fail> {
     let rows: [(&Sample, Option<Plain>); 5] = [

@@ -1,4 +1,5 @@
-ghost use Rattle.std.specs.Prelude.{◌≡◌, ◌*◌, ◌≤◌, IfOk};
+ghost use Rattle.std.specs.Prelude.{◌≡◌, ℕ, ◌*◌, ◌≤◌, IfOk, false};
+ghost use Rattle.grd_base.specs.Bits.{members};
 
 use crate::samples::{
     FORK_WITH_DEAD_ENDS, FORK_WITH_FAR_GOAL, FORK_WITH_NEAR_GOAL, Sample, goal, task,
@@ -9,7 +10,6 @@ use optimal_search::{CostFound, GoalSearchFault, Oracle, costs};
 use search_core::SearchFault;
 use std::alloc::Global;
 use std::test::Fail;
-use strips_model::Task;
 
 const A: ActionId = ActionId(0);
 
@@ -59,8 +59,8 @@ fn has_costs(alloc: Global, sample: &Sample, states: u32, wanted: &[Plain]) -> R
     }
 }
 
-// Seven states are reached. For each of the two atoms four of them are near, and for both at once three; for atom 5
-// none is.
+// Seven states are reached. For each of the two atoms four of them are near, and for both at once three;
+// for atom 5 none is.
 #[test]
 fn costs_have_plans_and_tables(rt: HostRuntime) -> Result<(), Fail> {
     let rows: [(&Sample, u32, &[Plain]); 2] = [
@@ -117,60 +117,85 @@ use Question::{Cost, Steps};
 type Answer = Result<Option<usize>, SearchFault>;
 
 fn cost<const W: usize>(alloc: Global, oracle: &mut Oracle<W>) -> Answer
-    ensures { oracle.new.task ≡ oracle.old.task }
+    ensures task { oracle.new.task ≡ oracle.old.task }
+    ensures count { oracle.new.task.atoms ≡ oracle.old.task.atoms }
 {
     let cost = oracle.cost(alloc)?;
     Ok(cost.map(|cost| cost as usize))
 }
 
-// An atom of another task is none here.
+// The state in which this atom alone is true, where there is one.
+fn only<const W: usize>(below: u32, atom: u32) -> Bits<W>
+    requires width { W ≤ 64 }
+    requires atoms { below ≤ 64 * W }
+    ensures { (n : ℕ) → below ≤ n → members result n ≡ false }
+{
+    let mut s = Bits::new();
+    if atom < below {
+        s.insert(atom);
+    }
+    s
+}
+
 fn steps<const W: usize>(
     alloc: Global,
     oracle: &mut Oracle<W>,
-    task: &Task,
+    below: u32,
     atom: u32,
     most: u32,
 ) -> Answer
     requires width { W ≤ 64 }
-    requires atoms { task.now.atoms ≤ 64 * W }
-    requires task { oracle.old.task ≡ task.now }
-    ensures { oracle.new.task ≡ oracle.old.task }
+    requires atoms { below ≤ 64 * W }
+    requires count { oracle.old.task.atoms ≡ below }
+    ensures task { oracle.new.task ≡ oracle.old.task }
+    ensures count { oracle.new.task.atoms ≡ oracle.old.task.atoms }
 {
-    let mut s = Bits::<W>::new();
-    if atom < task.atoms {
-        s.insert(atom);
-    }
+    let s = only::<W>(below, atom);
     let path = oracle.within(alloc, &s, most)?;
     Ok(path.map(|path| path.len()))
+}
+
+fn answer<const W: usize>(
+    alloc: Global,
+    oracle: &mut Oracle<W>,
+    below: u32,
+    question: Question,
+) -> Answer
+    requires width { W ≤ 64 }
+    requires atoms { below ≤ 64 * W }
+    requires count { oracle.old.task.atoms ≡ below }
+    ensures task { oracle.new.task ≡ oracle.old.task }
+    ensures count { oracle.new.task.atoms ≡ oracle.old.task.atoms }
+{
+    match question {
+        Cost => cost(alloc, oracle),
+        Steps(atom, most) => steps(alloc, oracle, below, atom, most),
+    }
 }
 
 // How many of the questions, one after the other, have these answers.
 fn right<const W: usize>(
     alloc: Global,
     oracle: &mut Oracle<W>,
-    task: &Task,
+    below: u32,
     questions: &[(Question, Answer)],
 ) -> usize
     requires width { W ≤ 64 }
-    requires atoms { task.now.atoms ≤ 64 * W }
-    requires task { oracle.old.task ≡ task.now }
+    requires atoms { below ≤ 64 * W }
+    requires count { oracle.old.task.atoms ≡ below }
     ensures { oracle.new.task ≡ oracle.old.task }
 {
     let mut right = 0;
     for (question, wanted) in questions {
-        let answer = match question {
-            Cost => cost(alloc, oracle),
-            Steps(atom, most) => steps(alloc, oracle, task, *atom, *most),
-        };
-        if answer == *wanted && right < usize::MAX {
+        if answer(alloc, oracle, below, *question) == *wanted && right < usize::MAX {
             right += 1;
         }
     }
     right
 }
 
-// What is asked of an oracle: the goal, the removed actions, how many states a question may count, and questions
-// with their answers.
+// What is asked of an oracle: the goal, the removed actions, how many states a question may count, and
+// questions with their answers.
 #[derive(Clone, Copy)]
 struct Asked {
     goal: u32,
@@ -179,7 +204,8 @@ struct Asked {
     questions: &'static [(Question, Answer)],
 }
 
-// How many questions are answered so, how many rows are kept, how many of these by steps, and their first fault.
+// How many questions are answered so, how many rows are kept, how many of these by steps, and their first
+// fault.
 type Kept = (usize, usize, usize, Option<TableFault>);
 
 fn kept<const W: usize>(alloc: Global, asked: &Asked) -> Result<Kept, Fail>
@@ -190,7 +216,7 @@ fn kept<const W: usize>(alloc: Global, asked: &Asked) -> Result<Kept, Fail>
     let removed = ActionSet::from_list(alloc, asked.removed)?;
     let limits = up_to(asked.states)?;
     let mut oracle = Oracle::<W>::new(alloc, &task, goal, &removed, limits)?;
-    let right = right(alloc, &mut oracle, &task, asked.questions);
+    let right = right(alloc, &mut oracle, task.atoms, asked.questions);
     let table = oracle.table(alloc)?;
     let by_steps = table
         .rows
@@ -201,8 +227,8 @@ fn kept<const W: usize>(alloc: Global, asked: &Asked) -> Result<Kept, Fail>
     Ok((right, table.rows.len(), by_steps, fault))
 }
 
-// Without B no state is near. For both atoms at once three are; from atom 1 two are, and their rows are by steps; those of
-// atoms 3 and 4, from which the goal is never reached, are by cuts.
+// Without B no state is near. For both atoms at once three are; from atom 1 two are, and their rows are
+// by steps; those of atoms 3 and 4, from which the goal is never reached, are by cuts.
 #[test]
 fn oracle_keeps_a_valid_table(rt: HostRuntime) -> Result<(), Fail> {
     let rows: [(Asked, usize, usize); 4] = [

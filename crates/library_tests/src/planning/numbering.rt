@@ -20,7 +20,7 @@ fn only<const W: usize>(n: u32) -> Bits<W>
 fn insert<const W: usize>(
     alloc: Global,
     store: &mut StateStore<W>,
-    members: &[u32],
+    members: &[u32; 6],
 ) -> Result<Vec<u32>, Fail>
     requires width { W ≤ 64 }
     requires empty { length store.old ≡ 0 }
@@ -33,17 +33,17 @@ fn insert<const W: usize>(
 }
 
 // The numbers that the states with these one members get, one after the other.
-fn numbers<const W: usize>(alloc: Global, members: &[u32]) -> Result<Vec<u32>, Fail>
+fn numbers<const W: usize>(alloc: Global, members: &[u32; 6]) -> Result<Vec<u32>, Fail>
     requires { W ≤ 64 }
 {
     let mut store = StateStore::<W>::new(alloc);
     insert(alloc, &mut store, members)
 }
 
-// Whether the state of the number is that with the one member; where there is none, of no state of this number.
+// Whether the number is that of the state with the one member; without a member, whether it is that of none.
 fn is_at<const W: usize>(
     alloc: Global,
-    members: &[u32],
+    members: &[u32; 6],
     number: u32,
     member: Option<u32>,
 ) -> Result<bool, Fail>

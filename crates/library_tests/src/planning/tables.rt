@@ -108,7 +108,7 @@ fn each_fault_of_cuts_has_its_place(rt: HostRuntime) -> Result<(), Fail> {
         assert_eq!(rt;
             fault(rt.alloc(), LEFT, &[SOUND, second])?,
             wanted,
-            "{second:?}"
+            "{wanted:?}"
         );
     }
     Ok(())

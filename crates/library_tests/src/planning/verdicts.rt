@@ -4,7 +4,7 @@ ghost use Rattle.cost_certificate.specs.Rows.{PlainRow};
 ghost use Rattle.cost_certificate.specs.Tables.{IsRowOver};
 ghost use Rattle.strips_model.specs.Observed.{observed_task};
 
-use crate::samples::{FORK_OF_THREE, task};
+use crate::samples::{FORK_OF_THREE, goal, task};
 use cost_certificate::{Table, Verdict, valid_table};
 use grd_base::{ActionId, ActionSet, GoalId, Limits};
 use observation_compile::observed;
@@ -49,26 +49,6 @@ fn verdicts(
     recognise(alloc, task, found.as_slice(), observations, up_to(states))
 }
 
-// Whether the table has rows and is valid for the goal in the observed task.
-fn is_valid(
-    alloc: Global,
-    task: &Task,
-    observations: &[ActionId],
-    goal: GoalId,
-    table: &Table,
-) -> Result<bool, Fail>
-    requires atoms { task.now.atoms ≤ 64 }
-    requires actions { length task.now.actions ≤ 32 }
-    requires goal { goal.0 < length task.now.goals }
-    requires observations { length observations.now ≤ 32 }
-    requires rows { All (IsRowOver (observed_task task.now observations.now)) table.now }
-{
-    let made = observed(alloc, task, observations)?;
-    let none = ActionSet::new(alloc);
-    let fault = valid_table(alloc, &made, goal, &none, table)?;
-    Ok(fault.is_none() && !table.rows.is_empty())
-}
-
 // A verdict: Yes with a plan, No with a table that has no rows, or No with a valid table that has some.
 #[derive(Clone, Copy)]
 enum Plain {
@@ -79,35 +59,63 @@ enum Plain {
 
 use Plain::{NoRows, Plan, Rows};
 
-// Whether the verdict on the goal with this number is the wanted one.
+// Whether the plan is the wanted one.
+fn is_plan(plan: &[ActionId], wanted: Plain) -> bool {
+    match wanted {
+        Plan(wanted) => plan == wanted,
+        _ => false,
+    }
+}
+
+// Whether the table is valid for the goal in the observed task, and has rows or none, as is wanted.
+fn is_table(
+    alloc: Global,
+    task: &Task,
+    observations: &[ActionId],
+    goal: GoalId,
+    table: &Table,
+    wanted: Plain,
+) -> Result<bool, Fail>
+    requires atoms { task.now.atoms ≤ 64 }
+    requires actions { length task.now.actions ≤ 32 }
+    requires goal { goal.0 < length task.now.goals }
+    requires observations { length observations.now ≤ 32 }
+    requires rows { All (IsRowOver (observed_task task.now observations.now)) table.now }
+{
+    let made = observed(alloc, task, observations)?;
+    let none = ActionSet::new(alloc);
+    let fault = valid_table(alloc, &made, goal, &none, table)?;
+    let as_wanted = match wanted {
+        Plan(_) => false,
+        NoRows => table.rows.is_empty(),
+        Rows => !table.rows.is_empty(),
+    };
+    Ok(fault.is_none() && as_wanted)
+}
+
+// Whether each goal has a verdict, and this one the wanted one.
 fn is(
     alloc: Global,
     task: &Task,
     observations: &[ActionId],
     found: &[Verdict],
-    number: u32,
+    goal: GoalId,
     wanted: Plain,
 ) -> Result<bool, Fail>
     requires atoms { task.now.atoms ≤ 64 }
     requires actions { length task.now.actions ≤ 32 }
+    requires goal { goal.0 < length task.now.goals }
     requires observations { length observations.now ≤ 32 }
     requires over { (k : ℕ) (table : List PlainRow) → slice_get found.now k ≡ Some (Verdict.No table)
         → All (IsRowOver (observed_task task.now observations.now)) table }
 {
-    if number as usize >= task.goals.len() {
+    if found.len() != task.goals.len() {
         return Ok(false);
     }
-    match (found.get(number as usize), wanted) {
-        (Some(Verdict::Yes(plan)), Plan(wanted)) => Ok(plan.as_slice() == wanted),
-        (Some(Verdict::No(table)), NoRows) => Ok(table.rows.is_empty()),
-        (Some(Verdict::No(table)), Rows) => is_valid(
-            alloc,
-            task,
-            observations,
-            GoalId(number),
-            table,
-        ),
-        _ => Ok(false),
+    match found.get(goal.0 as usize) {
+        Some(Verdict::Yes(plan)) => Ok(is_plan(plan, wanted)),
+        Some(Verdict::No(table)) => is_table(alloc, task, observations, goal, table, wanted),
+        None => Ok(false),
     }
 }
 
@@ -119,17 +127,19 @@ fn has_verdict(
     wanted: Plain,
 ) -> Result<bool, Fail> {
     let task = task(alloc, &FORK_OF_THREE)?;
+    let goal = goal(&task, number)?;
     if observations.len() > 32 {
         return Err("few observations")?;
     }
     match verdicts(alloc, &task, observations, 10) {
-        Ok(found) => is(alloc, &task, observations, &found, number, wanted),
+        Ok(found) => is(alloc, &task, observations, &found, goal, wanted),
         Err(_) => Ok(false),
     }
 }
 
-// The first step lies on the plans of both goals, and the step to the left on no plan to the right. The last step is never
-// before the first, and no step is taken twice. A goal that is never reached is not recognised.
+// The first step lies on the plans of both goals, and the step to the left on no plan to the right. The
+// last step is never before the first, and no step is taken twice. A goal that is never reached is not
+// recognised.
 #[test]
 fn goals_whose_plans_embed_the_observations_are_recognised(rt: HostRuntime) -> Result<(), Fail> {
     let rows: [(&[ActionId], [Plain; 3]); 5] = [
