@@ -13,7 +13,7 @@ use Rattle.optimal_search.proofs.oracle.Oracle.new.Goals as goal
 no_rows : {W : ℕ} (t u : PlainTask) (g h : GoalId) (removed without : List ActionId) (limit : ℕ) (states : List (Bits W)) (bounds : List (Option ProvedBound))
     → u ≡ t → h ≡ g → without ≡ removed → states ≡ [] → bounds ≡ []
     → ◌≡◌ {A = PlainOracle} (record { task = u; goal = h; removed = without; limit = limit; rows = rows_kept u h without states bounds })
-        (record { task = t; goal = g; removed = removed; limit = limit; rows = [] })
+    (record { task = t; goal = g; removed = removed; limit = limit; rows = [] })
 no_rows t u g h removed without limit states bounds same_task same_goal same_removed none no_bounds =
     let rows : rows_kept u h without states bounds ≡ [] = ap₂ (rows_kept u h without) none no_bounds in
     cc
