@@ -42,6 +42,10 @@ fn count_read<F: Shelf>(
     Ok(count)
 }
 
+fn file_len(shelf: &MemoryShelf, name: &str) -> Option<usize> {
+    Some(shelf.file(name)?.len())
+}
+
 /// The reads of a shelf, and what comes of them. The second call is the second read of the long file.
 const READS: &[(&str, u64, Result<u32, ReadFault>)] = &[
     ("long", 100_000, Err(ReadFault::Failed)),
@@ -58,8 +62,8 @@ fn whole_files_are_read_from_memory(rt: HostRuntime) -> Result<(), Fail> {
         let found = count_read(rt.alloc(), &mut shelf, name, *limit);
         assert_eq!(rt; found, *want, "{name}");
     }
-    assert_eq!(rt; shelf.file("empty").map(|bytes| bytes.len()), Some(0));
-    assert!(rt; shelf.file("missing").is_none());
+    assert_eq!(rt; file_len(&shelf, "empty"), Some(0));
+    assert_eq!(rt; file_len(&shelf, "missing"), None);
     Ok(())
 }
 

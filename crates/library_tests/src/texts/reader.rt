@@ -215,8 +215,8 @@ init free@48; at@55 a@58 home@60; free@67;\n",
     ),
 ];
 
-/// Domains with a fault, and the first.
-const DOMAIN_FAULTS: &[(&str, &str)] = &[
+/// Texts that are no domain as a whole, and the first fault.
+const DOCUMENT_FAULTS: &[(&str, &str)] = &[
     ("", "empty"),
     ("; (define)", "empty"),
     (
@@ -244,6 +244,18 @@ const DOMAIN_FAULTS: &[(&str, &str)] = &[
     ("(define (domain d) :types)", "byte 19: shape"),
     ("(define (domain d) ())", "byte 19: shape"),
     ("(define (domain d) ((:types)))", "byte 20: shape"),
+];
+
+#[test]
+fn first_fault_of_a_document_is_named_with_its_place(rt: HostRuntime) -> Result<(), Fail> {
+    for (text, want) in DOCUMENT_FAULTS {
+        assert_eq!(rt; domain_of(rt.alloc(), text)?.as_str(), *want, "{text}");
+    }
+    Ok(())
+}
+
+/// Domains with a fault in a section other than an action, and the first.
+const SECTION_FAULTS: &[(&str, &str)] = &[
     (
         "(define (domain d) (:types) (:Types -))",
         "byte 28: doubled section",
@@ -343,6 +355,18 @@ const DOMAIN_FAULTS: &[(&str, &str)] = &[
         "(define (domain d) (:predicates (p ?x - (either t ?u))))",
         "byte 50: shape",
     ),
+];
+
+#[test]
+fn first_fault_of_a_section_is_named_with_its_place(rt: HostRuntime) -> Result<(), Fail> {
+    for (text, want) in SECTION_FAULTS {
+        assert_eq!(rt; domain_of(rt.alloc(), text)?.as_str(), *want, "{text}");
+    }
+    Ok(())
+}
+
+/// Domains with a fault in an action, and the first.
+const ACTION_FAULTS: &[(&str, &str)] = &[
     ("(define (domain d) (:action))", "byte 19: shape"),
     ("(define (domain d) (:action :effect))", "byte 28: shape"),
     ("(define (domain d) (:action a (p)))", "byte 30: shape"),
@@ -474,6 +498,14 @@ const DOMAIN_FAULTS: &[(&str, &str)] = &[
     ),
 ];
 
+#[test]
+fn first_fault_of_an_action_is_named_with_its_place(rt: HostRuntime) -> Result<(), Fail> {
+    for (text, want) in ACTION_FAULTS {
+        assert_eq!(rt; domain_of(rt.alloc(), text)?.as_str(), *want, "{text}");
+    }
+    Ok(())
+}
+
 /// Problems with a fault, and the first.
 const PROBLEM_FAULTS: &[(&str, &str)] = &[
     ("(define (problem p", "byte 8: unclosed"),
@@ -563,14 +595,6 @@ fn domains_are_read_with_the_places_of_their_words(rt: HostRuntime) -> Result<()
 fn problems_are_read_with_the_places_of_their_words(rt: HostRuntime) -> Result<(), Fail> {
     for (text, want) in PROBLEMS {
         assert_eq!(rt; problem_of(rt.alloc(), text)?.as_str(), *want, "{text}");
-    }
-    Ok(())
-}
-
-#[test]
-fn first_fault_of_a_domain_is_named_with_its_place(rt: HostRuntime) -> Result<(), Fail> {
-    for (text, want) in DOMAIN_FAULTS {
-        assert_eq!(rt; domain_of(rt.alloc(), text)?.as_str(), *want, "{text}");
     }
     Ok(())
 }

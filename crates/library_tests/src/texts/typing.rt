@@ -155,8 +155,8 @@ fn names_are_numbered(rt: HostRuntime) -> Result<(), Fail> {
     Ok(())
 }
 
-/// Domains and problems with broken rules, and the first.
-const FAULTS: &[(&str, &str, &str)] = &[
+/// Domains and problems with a fault in what they declare.
+const DECLARATION_FAULTS: &[(&str, &str, &str)] = &[
     (
         "(define (domain d) (:types a a))",
         PLAIN_PROBLEM,
@@ -272,6 +272,19 @@ const FAULTS: &[(&str, &str, &str)] = &[
         PLAIN_PROBLEM,
         "domain byte 28: too many parameters",
     ),
+];
+
+#[test]
+fn faulty_declaration_is_named_with_its_place(rt: HostRuntime) -> Result<(), Fail> {
+    for (domain, problem, want) in DECLARATION_FAULTS {
+        let found = fault_of(rt.alloc(), domain, problem)?;
+        assert_eq!(rt; found.as_str(), *want, "{domain}");
+    }
+    Ok(())
+}
+
+/// Domains and problems with a fault in a literal or in the name of the domain.
+const LITERAL_FAULTS: &[(&str, &str, &str)] = &[
     (
         "(define (domain d) (:action a :precondition (p)))",
         PLAIN_PROBLEM,
@@ -387,6 +400,19 @@ const FAULTS: &[(&str, &str, &str)] = &[
         "(define (problem p) (:domain e) (:init))",
         "problem byte 29: other domain",
     ),
+];
+
+#[test]
+fn faulty_literal_is_named_with_its_place(rt: HostRuntime) -> Result<(), Fail> {
+    for (domain, problem, want) in LITERAL_FAULTS {
+        let found = fault_of(rt.alloc(), domain, problem)?;
+        assert_eq!(rt; found.as_str(), *want, "{domain}");
+    }
+    Ok(())
+}
+
+/// Domains and problems with two faults in what they declare, and the first.
+const EARLIER_FAULTS: &[(&str, &str, &str)] = &[
     (
         "(define (domain d) (:constants c - t) (:types a - a))",
         PLAIN_PROBLEM,
@@ -447,6 +473,19 @@ const FAULTS: &[(&str, &str, &str)] = &[
         PLAIN_PROBLEM,
         "domain byte 40: unknown type",
     ),
+];
+
+#[test]
+fn first_faulty_declaration_is_named(rt: HostRuntime) -> Result<(), Fail> {
+    for (domain, problem, want) in EARLIER_FAULTS {
+        let found = fault_of(rt.alloc(), domain, problem)?;
+        assert_eq!(rt; found.as_str(), *want, "{domain}");
+    }
+    Ok(())
+}
+
+/// Domains and problems with two faults, of which one is in a literal or in the problem, and the first.
+const FIRST_FAULTS: &[(&str, &str, &str)] = &[
     (
         "(define (domain d) (:action a :precondition (p)) (:action a))",
         PLAIN_PROBLEM,
@@ -565,8 +604,8 @@ const FAULTS: &[(&str, &str, &str)] = &[
 ];
 
 #[test]
-fn first_broken_rule_is_named_with_its_place(rt: HostRuntime) -> Result<(), Fail> {
-    for (domain, problem, want) in FAULTS {
+fn first_broken_rule_is_named(rt: HostRuntime) -> Result<(), Fail> {
+    for (domain, problem, want) in FIRST_FAULTS {
         let found = fault_of(rt.alloc(), domain, problem)?;
         assert_eq!(rt; found.as_str(), *want, "{domain}");
     }
