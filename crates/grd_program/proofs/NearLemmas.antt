@@ -1,10 +1,10 @@
 -- Which states count against the limit of a command: those that are near for a goal are reached for it.
-use Rattle.std.proofs.Common.{◌≡◌, ℕ, ◌+◌, ◌≤◌, length, arith}
+use Rattle.std.proofs.Common.{ℕ, ◌+◌, ◌≤◌, length, arith}
 use Rattle.std.proofs.lemmas.List.Elements.{All-weaker}
 use Rattle.grd_base.specs.declared.ids.GoalId.{GoalId}
 use Rattle.grd_base.specs.Counts.{MoreThan}
 use Rattle.strips_model.specs.Values.{PlainTask}
-use Rattle.strips_model.specs.Plans.{State, IsCost}
+use Rattle.strips_model.specs.Plans.{State}
 use Rattle.strips_model.specs.Reached.{IsReachedFor, IsNear}
 use Rattle.grd_program.specs.declared.question.Question.{Question}
 use Rattle.grd_program.specs.declared.question.Question.TheVariants.{Costs, Wcd}

@@ -1,5 +1,5 @@
 -- The report of costs, and of how long two goals can't be told apart.
-use Rattle.std.specs.Prelude.{◌≡◌, ℕ, ◌+◌, ◌<◌, map, List, [], ◌∷◌, ◌++◌, length, All, codes, Option, Some, None, slice_get, unwrap_or}
+use Rattle.std.specs.Prelude.{ℕ, ◌+◌, ◌<◌, map, List, [], ◌∷◌, ◌++◌, length, All, codes, Option, Some, None, slice_get, unwrap_or}
 use Rattle.std.specs.List.{flat_map}
 use Rattle.std.specs.Fmt.{decimal}
 use Rattle.grd_base.specs.declared.ids.ActionId.{ActionId}
