@@ -220,6 +220,11 @@ const DECLARATION_FAULTS: &[(&str, &str, &str)] = &[
     (
         "(define (domain d) (:types a - b object - a))",
         PLAIN_PROBLEM,
+        "domain byte 27: type cycle",
+    ),
+    (
+        "(define (domain d) (:types a - z object - z))",
+        PLAIN_PROBLEM,
         "domain byte 33: type cycle",
     ),
     (
