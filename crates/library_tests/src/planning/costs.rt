@@ -173,25 +173,41 @@ fn answer<const W: usize>(
     }
 }
 
-// How many of the questions, one after the other, have these answers.
+// Whether the question has this answer.
+fn is_answered<const W: usize>(
+    alloc: Global,
+    oracle: &mut Oracle<W>,
+    below: u32,
+    question: Question,
+    wanted: Answer,
+) -> bool
+    requires width { W ≤ 64 }
+    requires atoms { below ≤ 64 * W }
+    requires count { oracle.old.task.atoms ≡ below }
+    ensures task { oracle.new.task ≡ oracle.old.task }
+    ensures count { oracle.new.task.atoms ≡ oracle.old.task.atoms }
+{
+    answer(alloc, oracle, below, question) == wanted
+}
+
+// Whether the questions, one after the other, have these answers.
 fn right<const W: usize>(
     alloc: Global,
     oracle: &mut Oracle<W>,
     below: u32,
     questions: &[(Question, Answer)],
-) -> usize
+) -> bool
     requires width { W ≤ 64 }
     requires atoms { below ≤ 64 * W }
     requires count { oracle.old.task.atoms ≡ below }
     ensures { oracle.new.task ≡ oracle.old.task }
 {
-    let mut right = 0;
     for (question, wanted) in questions {
-        if answer(alloc, oracle, below, *question) == *wanted && right < usize::MAX {
-            right += 1;
+        if !is_answered(alloc, oracle, below, *question, *wanted) {
+            return false;
         }
     }
-    right
+    true
 }
 
 // What is asked of an oracle: the goal, the removed actions, how many states a question may count, and
@@ -204,9 +220,9 @@ struct Asked {
     questions: &'static [(Question, Answer)],
 }
 
-// How many questions are answered so, how many rows are kept, how many of these by steps, and their first
+// Whether the questions are answered so, how many rows are kept, how many of these by steps, and their first
 // fault.
-type Kept = (usize, usize, usize, Option<TableFault>);
+type Kept = (bool, usize, usize, Option<TableFault>);
 
 fn kept<const W: usize>(alloc: Global, asked: &Asked) -> Result<Kept, Fail>
     requires { (1 ≤ W) × (W ≤ 64) }
@@ -286,7 +302,7 @@ fn oracle_keeps_a_valid_table(rt: HostRuntime) -> Result<(), Fail> {
         ),
     ];
     for (asked, count, by_steps) in rows {
-        let wanted = (asked.questions.len(), count, by_steps, None);
+        let wanted = (true, count, by_steps, None);
         assert_eq!(rt; kept::<1>(rt.alloc(), &asked)?, wanted);
         assert_eq!(rt; kept::<2>(rt.alloc(), &asked)?, wanted);
     }

@@ -1,9 +1,9 @@
 use crate::samples::{FORK_OF_FOUR, goal, state, task};
-use grd_base::{ActionId, ActionSet, AtomId, Bits, Bound, GoalId};
+use grd_base::{ActionId, ActionSet, AtomId, Bound};
 use level_bounds::LevelFloor;
 use std::alloc::Global;
 use std::test::Fail;
-use strips_model::{Task, start, state_of};
+use strips_model::start;
 
 // The level of the goal of fork at the state that has these atoms alone, without the removed actions.
 fn level(alloc: Global, number: u32, removed: &[ActionId], atoms: &[u32]) -> Result<Bound, Fail> {

@@ -1,11 +1,9 @@
-ghost use Rattle.std.specs.Prelude.{◌≤◌, IfOk, length};
-
 use crate::samples::{FORK, task};
 use grd_base::{ActionId, AtomId};
 use observation_compile::{observed, plans_embed};
 use std::alloc::Global;
 use std::test::Fail;
-use strips_model::{Action, Condition, Task};
+use strips_model::Task;
 
 const A: ActionId = ActionId(0);
 

@@ -1,7 +1,6 @@
 use grd_base::{ActionId, Bound, OutOfMemory};
 use search_core::{Floor, KeptRow, SearchFault, Space, WithinAnswer, within};
 use std::alloc::Global;
-use std::test::Fail;
 
 // Numbers, with steps between them by a list. The action of a step has the number that it leads to.
 #[derive(Drop)]

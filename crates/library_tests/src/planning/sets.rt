@@ -1,5 +1,3 @@
-ghost use Rattle.std.specs.Prelude.{◌<◌};
-
 use grd_base::{
     ActionId, ActionSet, Bits, OutOfMemory, by_width, is_same, members_below, packed, same_members,
     same_order, same_whole, whole,
