@@ -54,7 +54,17 @@ def constants_of_one_type():
 
 def chain_into_a_cycle():
     """Types one below the other, of which the last is below the first."""
-    return filled("(define (domain d) (:types t0 - t1", lambda k: f" t{k + 1} - t{k + 2}", " last - t0))"), PROBLEM
+    count = 60_000
+    links = "".join(f" t{k} - t{(k + 1) % count}" for k in range(count))
+    return f"(define (domain d) (:types{links}))", PROBLEM
+
+
+def chain_with_a_cycle_at_its_end():
+    """Types one below the other, of which the last two are each below the other."""
+    count = 60_000
+    links = "".join(f" t{k} - t{min(k + 1, count - 2)}" for k in range(count - 1))
+    return f"(define (domain d) (:types{links} t{count - 1} - t{count - 2}))".replace(
+        f" t{count - 2} - t{count - 2}", f" t{count - 2} - t{count - 1}"), PROBLEM
 
 
 def late_cycle():
@@ -103,7 +113,8 @@ def names_that_differ_at_the_end():
 
 
 INPUTS = [
-    either_of_many, two_long_eithers, constants_of_one_type, chain_into_a_cycle, late_cycle,
+    either_of_many, two_long_eithers, constants_of_one_type, chain_into_a_cycle,
+    chain_with_a_cycle_at_its_end, late_cycle,
     predicates_of_many_objects, many_brackets, empty_lists, one_long_word, one_long_comment,
     actions_of_one_name, atoms_at_the_start, names_that_differ_at_the_end,
 ]
