@@ -60,6 +60,14 @@ impl ActionSet {
         Ok(ActionSet { ids })
     }
 
+    /// A copy of the set.
+    pub fn try_clone(&self, alloc: Global) -> Result<ActionSet, OutOfMemory>
+        ensures { IfOk result (λ set. set ≡ self.now) }
+    {
+        let ids = Vec::from_slice(alloc, self.ids.as_slice())?;
+        Ok(ActionSet { ids })
+    }
+
     /// The set with one more action, or the same set where it is there already.
     pub fn with(&self, alloc: Global, a: ActionId) -> Result<ActionSet, OutOfMemory>
         ensures { IfOk result (λ set. (b : _) → Contains set b ↔ ((b ≡ a) ⊎ Contains self.now b)) }

@@ -13,7 +13,7 @@ use Rattle.strips_model.specs.Cuts.{cut}
 use Rattle.strips_model.specs.Agents.{Embeds}
 use Rattle.strips_model.specs.Plans.{State, set_of, is_step, step, step_without, after, goal_holds, start_of, IsCost}
 use Rattle.strips_model.specs.Levels.{after_rounds, grown, IsLevel}
-use Rattle.strips_model.specs.Worlds.{Instance, World, task_of}
+use Rattle.strips_model.specs.Worlds.{Instance, World, has_atom, task_of}
 
 -- atoms by their names, as bytes
 abbrev Name : Type 0
@@ -50,7 +50,7 @@ from_to p q = record { pre = p ∷ []; add = q ∷ []; del = p ∷ [] }
 abbrev fork : World Name
 fork = record {
   fluents = codes "at0" ∷ codes "at1" ∷ codes "at2" ∷ codes "atl" ∷ codes "atr" ∷ [];
-  init = codes "at0" ∷ [];
+  at_start = has_atom same (codes "at0" ∷ []);
   actions = from_to (codes "at0") (codes "at1")
       ∷ from_to (codes "at1") (codes "at2")
       ∷ from_to (codes "at2") (codes "atl")
@@ -169,7 +169,7 @@ removed_action_adds_in_no_round = refl
 abbrev keep : World Name
 keep = record {
   fluents = codes "p" ∷ codes "q" ∷ [];
-  init = codes "p" ∷ [];
+  at_start = has_atom same (codes "p" ∷ []);
   actions = (record { pre = codes "p" ∷ []; add = codes "q" ∷ codes "p" ∷ []; del = codes "p" ∷ [] }) ∷ [];
   goals = (codes "p" ∷ codes "q" ∷ []) ∷ [];
 }
@@ -184,7 +184,7 @@ through door = record { pre = door ∷ []; add = codes "inside" ∷ []; del = []
 abbrev doors : World Name
 doors = record {
   fluents = codes "inside" ∷ [];
-  init = codes "open" ∷ [];
+  at_start = has_atom same (codes "open" ∷ []);
   actions = through (codes "open") ∷ through (codes "shut") ∷ [];
   goals = (codes "inside" ∷ codes "open" ∷ []) ∷ (codes "inside" ∷ codes "shut" ∷ []) ∷ [];
 }

@@ -5,6 +5,9 @@ pub mod FilterLemmas
 pub mod RisingLists
 pub mod AtomLists
 pub mod StateListLemmas
+pub mod LevelLaws
+pub mod CutLaws
+pub mod LevelNumbers
 mod ListLemmas
 mod IndexLemmas
 mod Examples

@@ -1,10 +1,11 @@
 -- What is asked about agents that follow plans: costs and optimal plans, which goals are recognised, which
--- sequences are common to two goals, and which design is best. All this uses of a task only which sequences
+-- sequences are common to two goals, which goals stay live, and which design is best. All this uses of a task only which sequences
 -- are plans of which goal without which actions, so it is stated over any such relation. The plans of a task
 -- are one: `IsPlan` of that task.
-use Rattle.std.specs.Prelude.{◌≡◌, ◌≢◌, ℕ, ◌<◌, ◌≤◌, ◌⊎◌, List, [], ◌∷◌, ◌++◌, length, Option, Some, None}
+use Rattle.std.specs.Prelude.{◌≡◌, ◌≢◌, ◌↔◌, ℕ, ◌<◌, ◌≤◌, ◌⊎◌, List, [], ◌∷◌, ◌++◌, length, Option, Some, None, slice_get, Contains}
 use Rattle.grd_base.specs.declared.ids.ActionId.{ActionId}
 use Rattle.grd_base.specs.declared.ids.GoalId.{GoalId}
+use Rattle.grd_base.specs.Rising.{IsRisingBy}
 
 -- which sequences are plans of which goal without which removed actions
 abbrev pub Plans : Type 1
@@ -57,13 +58,28 @@ pub record IsCommonAmong (plans : Plans) (removed : List ActionId) (i j : GoalId
 abbrev pub HasPlanAmong : Plans → GoalId → List ActionId → Type 0
 HasPlanAmong plans g removed = (plan : List ActionId) × plans g removed plan
 
--- the worst-case distinctiveness: some sequence of that length is common to two goals, and none that
--- is longer is; or none, where fewer than two goals have plans
+-- fewer than two goals have plans without the removed actions
+abbrev pub HaveFewPlansAmong : Plans → List ActionId → Type 0
+HaveFewPlansAmong plans removed = (i j : GoalId) → i ≢ j → HasPlanAmong plans i removed → HasPlanAmong plans j removed → ⊥
+
+-- the greatest length of what two goals share, by a relation that says which sequences they do: some
+-- sequence of that length is shared by two goals, and none that is longer is; or none, where fewer than
+-- two goals have plans
+abbrev pub IsGreatestAmong : Plans → List ActionId → (GoalId → GoalId → List ActionId → Type 0) → Option ℕ → Type 0
+IsGreatestAmong plans removed Share (Some n) =
+    ((i j : GoalId) × (q : List ActionId) × (length q ≡ n) × Share i j q)
+    × ((i j : GoalId) (q : List ActionId) → Share i j q → length q ≤ n)
+IsGreatestAmong plans removed Share None = HaveFewPlansAmong plans removed
+
+-- the worst-case distinctiveness: the greatest length of a common sequence
 abbrev pub IsWcdAmong : Plans → List ActionId → Option ℕ → Type 0
-IsWcdAmong plans removed (Some n) =
-    ((i j : GoalId) × (q : List ActionId) × (length q ≡ n) × IsCommonAmong plans removed i j q)
-    × ((i j : GoalId) (q : List ActionId) → IsCommonAmong plans removed i j q → length q ≤ n)
-IsWcdAmong plans removed None = (i j : GoalId) → i ≢ j → HasPlanAmong plans i removed → HasPlanAmong plans j removed → ⊥
+IsWcdAmong plans removed = IsGreatestAmong plans removed (IsCommonAmong plans removed)
+
+-- the goals, each once and rising, that have an optimal plan which begins with the sequence: those that an
+-- agent may still follow that took it
+pub record AreLiveAmong (plans : Plans) (q : List ActionId) (goals : List GoalId) : Type 0 where
+  pub rise : IsRisingBy (λ g. g.0) goals
+  pub live : (g : GoalId) → Contains goals g ↔ BeginsOptimalAmong plans g [] q
 
 -- each goal costs without the removed actions what it costs with all, or has no plan either way
 abbrev pub KeepsCostsAmong : Plans → List ActionId → Type 0
@@ -81,3 +97,7 @@ pub record IsBestAmong (plans : Plans) (budget : ℕ) (removed : List ActionId) 
       → (w v : ℕ) → IsWcdAmong plans removed (Some w) → IsWcdAmong plans other (Some v)
       → (w < v) ⊎ ((w ≡ v) × (length removed ≤ length other))
   pub none : IsWcdAmong plans [] None → removed ≡ []
+
+-- one set of removed actions for each budget from 0 on, which is best for it
+abbrev pub IsFrontAmong : Plans → List (List ActionId) → Type 0
+IsFrontAmong plans front = (budget : ℕ) (removed : List ActionId) → slice_get front budget ≡ Some removed → IsBestAmong plans budget removed

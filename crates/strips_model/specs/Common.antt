@@ -1,6 +1,6 @@
 -- Sequences that are common to two goals, and how long two goals can't be told apart: this project's
 -- own wording, after Keren, Gal and Karpas 2014. Two goals with the same atoms are different goals.
-use Rattle.std.specs.Prelude.{◌≡◌, ◌≢◌, ℕ, ◌<◌, ◌≤◌, List, ◌++◌, length, Option, Some, None, slice_get}
+use Rattle.std.specs.Prelude.{◌≡◌, ℕ, List, length, Option, Some, None, slice_get}
 use Rattle.grd_base.specs.declared.ids.ActionId.{ActionId}
 use Rattle.grd_base.specs.declared.ids.GoalId.{GoalId}
 use Rattle.strips_model.specs.Values.{PlainTask, PlainWitness}

@@ -1,6 +1,7 @@
 -- Levels: after how many rounds a goal holds when all actions act at once and nothing is deleted. No
 -- sequence to the goal is shorter (after the max heuristic of Bonet and Geffner 2001).
-use Rattle.std.specs.Prelude.{◌≡◌, ℕ, zero, suc, ◌<◌, Bool, false, not, ◌||◌, ◌&&◌, IsTrue, List, Option, Some, None}
+use Rattle.std.specs.Prelude.{◌≡◌, ℕ, zero, suc, ◌+◌, ◌<◌, Bool, false, not, ◌||◌, ◌&&◌, if◌then◌else◌, IsTrue, List, Option, Some, None}
+use Rattle.std.specs.Option.{option_map}
 use Rattle.std.specs.List.{list_any, enumerate_from}
 use Rattle.grd_base.specs.declared.ids.ActionId.{ActionId}
 use Rattle.grd_base.specs.declared.ids.GoalId.{GoalId}
@@ -29,3 +30,18 @@ IsLevel t g removed s (Some n) =
     IsTrue (goal_holds t g (after_rounds t removed s n))
     × ((k : ℕ) → k < n → goal_holds t g (after_rounds t removed s k) ≡ false)
 IsLevel t g removed s None = (k : ℕ) → goal_holds t g (after_rounds t removed s k) ≡ false
+
+-- the first number of at most n rounds after which the goal holds, or none
+unfoldable pub level_within : PlainTask → GoalId → List ActionId → State → ℕ → Option ℕ
+level_within t g removed s zero = if goal_holds t g s then Some 0 else None
+level_within t g removed s (suc n) = if goal_holds t g s then Some 0 else option_map (λ k. suc k) (level_within t g removed (grown t removed s) n)
+
+-- the level of the goal at the state, computed: of a task's rounds, each reaches an atom until one reaches
+-- none, so no more of them tell anything than there are atoms
+abbrev pub level_at : PlainTask → GoalId → List ActionId → State → Option ℕ
+level_at t g removed s = level_within t g removed s t.atoms
+
+-- how many numbers below n are not in the set
+abbrev pub missing : State → ℕ → ℕ
+missing u zero = 0
+missing u (suc n) = (if u n then 0 else 1) + missing u n

@@ -1,4 +1,8 @@
+pub mod Promise
 pub mod Agents
+pub mod Useful
+pub mod Slack
+pub mod Hidden
 pub mod Values
 pub mod Plans
 pub mod Observed

@@ -1,6 +1,6 @@
 -- States, steps, plans and costs, after PDDL 2.1 without time and numbers: every action costs one.
 -- An action or a goal whose number is none of the task's never applies, and never holds.
-use Rattle.std.specs.Prelude.{◌≡◌, ℕ, ◌≤◌, Bool, false, not, ◌&&◌, ◌==◌, if◌then◌else◌, IsTrue, List, [], ◌∷◌, length, Option, Some, None, slice_get, ◌⊎◌, IsSomeAnd}
+use Rattle.std.specs.Prelude.{◌≡◌, ℕ, ◌≤◌, Bool, false, not, ◌&&◌, ◌==◌, if◌then◌else◌, IsTrue, List, [], ◌∷◌, Option, Some, None, slice_get, IsSomeAnd}
 use Rattle.std.specs.Option.{option_map_or, option_and_then}
 use Rattle.std.specs.List.{list_any, list_all}
 use Rattle.grd_base.specs.declared.ids.AtomId.{AtomId}

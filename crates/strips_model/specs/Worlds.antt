@@ -11,11 +11,11 @@ pub record Instance (A : Type 0) : Type 0 where
   pub add : List A
   pub del : List A
 
--- a world by its atoms: the fluent ones, each once, the true ones at the start, the ground actions
--- and the goals. An atom that is not fluent is static: no action changes it
+-- a world by its atoms: the fluent ones, each once, a test of which atoms are true at the start, the ground
+-- actions and the goals. An atom that is not fluent is static: no action changes it
 pub record World (A : Type 0) : Type 0 where
   pub fluents : List A
-  pub init : List A
+  pub at_start : A → Bool
   pub actions : List (Instance A)
   pub goals : List (List A)
 
@@ -35,7 +35,7 @@ numbers_of same w xs = places_of (has_atom same xs) 0 w.fluents
 
 -- whether one of the atoms is static and not true at the start
 abbrev pub is_blocked : {A : Type 0} → (A → A → Bool) → World A → List A → Bool
-is_blocked same w xs = list_any (λ x. not (has_atom same w.fluents x) && not (has_atom same w.init x)) xs
+is_blocked same w xs = list_any (λ x. not (has_atom same w.fluents x) && not (w.at_start x)) xs
 
 -- the action by numbers; only what it needs can block it
 abbrev pub action_of : {A : Type 0} → (A → A → Bool) → World A → Instance A → GroundAction
@@ -54,7 +54,7 @@ goal_of same w atoms = record { atoms = numbers_of same w atoms; blocked = is_bl
 abbrev pub task_of : {A : Type 0} → (A → A → Bool) → World A → PlainTask
 task_of same w = record {
   atoms = length w.fluents;
-  init = numbers_of same w w.init;
+  init = places_of w.at_start 0 w.fluents;
   actions = map (action_of same w) w.actions;
   goals = map (goal_of same w) w.goals;
 }
