@@ -1,3 +1,4 @@
+pub mod Promise
 pub mod Rows
 pub mod Tables
 pub mod Faults

@@ -1,6 +1,6 @@
 -- Valid tables. A table is a list of rows for one task, one goal and one set of removed actions; it is
 -- valid where each row stands on its own cuts or on the rows of its successors.
-use Rattle.std.specs.Prelude.{◌≡◌, ◌⊎◌, ℕ, zero, suc, ◌≤◌, ◌<◌, List, length, Some, false, All, Any}
+use Rattle.std.specs.Prelude.{◌≡◌, ◌⊎◌, ℕ, zero, suc, ◌≤◌, ◌<◌, List, [], ◌∷◌, length, Some, false, All, Any}
 use Rattle.grd_base.specs.declared.ids.AtomId.{AtomId}
 use Rattle.grd_base.specs.declared.ids.ActionId.{ActionId}
 use Rattle.grd_base.specs.declared.ids.GoalId.{GoalId}
@@ -80,3 +80,13 @@ pub record IsRowOver (t : PlainTask) (row : PlainRow) : Type 0 where
 abbrev pub Refutes : Bound → ℕ → Type 0
 Refutes (Steps r) n = r < n
 Refutes Never n = ⊥
+
+-- a state goes before others where its row is by steps
+abbrev pub with_state : Why → State → List State → List State
+with_state (Cuts sets) s others = others
+with_state BySteps s others = s ∷ others
+
+-- the states of the rows by steps
+abbrev pub states_by_steps : List PlainRow → List State
+states_by_steps [] = []
+states_by_steps (row ∷ rows) = with_state row.why (set_of row.state) (states_by_steps rows)

@@ -1,5 +1,5 @@
 mod FilingLemmas
 mod WaveLemmas
-pub mod LevelLaws
+pub mod RoundLaws
 pub mod FamilyLaws
 mod JoinLemmas

@@ -1,10 +1,10 @@
 -- Rounds over candidates: they reach what a round of all actions reaches, and leave the candidates of the next.
-use Rattle.std.proofs.Common.{◌≡◌, ◌↔◌, ◌⊎◌, ◌==◌, ℕ, zero, suc, ◌+◌, ◌<◌, ◌≤◌, Bool, true, false, cond, not, ◌&&◌, ◌||◌, List, [], ◌∷◌, length, take, get_or, refl, sym, ◌∙◌, ap, subst, inl, inr, arith, Option, Some, None}
+use Rattle.std.proofs.Common.{◌≡◌, ◌↔◌, ◌⊎◌, ◌==◌, ℕ, ◌+◌, ◌<◌, ◌≤◌, Bool, true, false, not, ◌&&◌, ◌||◌, List, [], ◌∷◌, length, take, get_or, refl, sym, ◌∙◌, ap, subst, inl, inr, arith, Option, Some, None}
 use Rattle.std.specs.Prelude.{slice_get, Contains, All, IsTrue}
 use Rattle.std.specs.Option.{option_map_or}
 use Rattle.std.specs.List.{list_any, list_all, enumerate_from}
 use Rattle.std.proofs.Math.Path.{fun_ext}
-use Rattle.std.proofs.lemmas.Bool.{cases_Bool, or_cases, or_parts, or_left, or_right, and_parts, and_from, and_cases, and_left, false≢true, both_ways, not-true, not_from_false, false_from_ne_true, eq-eqb, eqb-true, cases_eq}
+use Rattle.std.proofs.lemmas.Bool.{cases_Bool, or_cases, or_parts, or_left, or_right, and_parts, and_from, and_cases, and_left, false≢true, both_ways, not-true, not_from_false, false_from_ne_true, eq-eqb, eqb-true}
 use Rattle.std.proofs.lemmas.Option.{slice_get_within, slice_get-get_or, get_or_from_slice_get}
 use Rattle.std.proofs.lemmas.List.{take_all, get_or_default}
 use Rattle.std.proofs.lemmas.List.FromFn.{get_or-enumerate_from, length-enumerate_from}
@@ -19,7 +19,9 @@ use Rattle.strips_model.specs.Plans.{State, set_of, has_all, can_apply, is_step}
 use Rattle.strips_model.specs.Index.{listed}
 use Rattle.strips_model.specs.Levels.{joins, grown}
 use Rattle.level_bounds.proofs.FilingLemmas.{usable_parts, usable_from, action_below, or_false}
-use Rattle.level_bounds.specs.Waves.{is_usable, AreFiled, AreReady, is_added, IsGrowth, missing}
+use Rattle.strips_model.specs.Levels.{missing}
+use Rattle.strips_model.proofs.LevelNumbers.{missing_fewer}
+use Rattle.level_bounds.specs.Waves.{is_usable, AreFiled, AreReady, is_added, IsGrowth}
 
 module _ {X : Type 0} (p : X → Bool) where
   -- an element that passes the test settles it
@@ -122,29 +124,6 @@ numbered_from acts x there =
     let number : there.0 ≡ x.0 = omega (arith, ap (λ (y : ℕ × GroundAction). y.0) is) in
     let action : get_or acts there.0 x.1 ≡ x.1 = ap (λ (y : ℕ × GroundAction). y.1) is in
     subst (λ (k : ℕ). slice_get acts k ≡ Some x.1) number (slice_get-get_or acts there.0 x.1 within ∙ ap Some action)
-
--- in a greater set fewer numbers are missing
-module _ (u v : State) (kept : (n : ℕ) → u n ≡ true → v n ≡ true) where
-  one_missing : (n : ℕ) → cond (v n) 0 1 ≤ cond (u n) 0 1
-  one_missing n = by (u n) (v n) (kept n)
-    where
-      by : (x y : Bool) → (x ≡ true → y ≡ true) → cond y 0 1 ≤ cond x 0 1
-      by true y h = rw (h refl) (omega arith)
-      by false true h = omega arith
-      by false false h = omega arith
-
-  missing_at_most : (n : ℕ) → missing v n ≤ missing u n
-  missing_at_most zero = omega arith
-  missing_at_most (suc n) = omega (arith, one_missing n, missing_at_most n)
-
-  pub missing_fewer : (k : ℕ) → u k ≡ false → v k ≡ true → (n : ℕ) → k < n → missing v n < missing u n
-  missing_fewer k out is zero below = absurd (omega arith)
-  missing_fewer k out is (suc n) below = elim (cases_eq k n) [
-    | inl same ↦
-        let last : cond (v n) 0 1 < cond (u n) 0 1 = subst (λ (m : ℕ). cond (v m) 0 1 < cond (u m) 0 1) same (rw (out, is) (omega arith)) in
-        omega (arith, last, missing_at_most n)
-    | inr other ↦ omega (arith, one_missing n, missing_fewer k out is n (omega arith))
-  ]
 
 module _ (t : PlainTask) (u : State) (candidates : List ActionId) (v : State) (fresh : List AtomId) (growth : IsGrowth t u candidates v fresh) where
   -- each atom of the set stays in it

@@ -1,32 +1,39 @@
 -- Bounds from levels, and the families that show them.
-use Rattle.std.specs.Prelude.{◌≡◌, ℕ, zero, suc, ◌≤◌, List, [], ◌∷◌, ◌++◌, length, Option, Some, None, if◌then◌else◌, All}
-use Rattle.std.specs.Option.{option_map}
+use Rattle.std.specs.Prelude.{◌≡◌, ℕ, zero, suc, ◌<◌, ◌≤◌, List, [], ◌∷◌, ◌++◌, length, Option, Some, None, All}
 use Rattle.grd_base.specs.declared.ids.AtomId.{AtomId}
 use Rattle.grd_base.specs.declared.ids.ActionId.{ActionId}
 use Rattle.grd_base.specs.declared.ids.GoalId.{GoalId}
 use Rattle.grd_base.specs.declared.limits.Bound.{Bound}
 use Rattle.grd_base.specs.declared.limits.Bound.TheVariants.{Steps, Never}
 use Rattle.strips_model.specs.Values.{PlainTask}
-use Rattle.strips_model.specs.Plans.{State, set_of, goal_holds}
+use Rattle.strips_model.specs.Plans.{State, set_of}
 use Rattle.strips_model.specs.StateLists.{atoms_in}
 use Rattle.strips_model.specs.Cuts.{cut, IsEmptyCut}
-use Rattle.strips_model.specs.Levels.{grown, after_rounds, IsLevel}
+use Rattle.strips_model.specs.Levels.{after_rounds, IsLevel, level_at}
+use Rattle.level_bounds.specs.Waves.{AreFiled}
 
--- a task, a goal and the actions that may not be used
+-- a floor: its goal, the actions that may not be used, and the others, by the atoms that they need or apart
 pub record PlainFloor : Type 0 where
-  pub task : PlainTask
   pub goal : GoalId
   pub removed : List ActionId
+  pub free : List ActionId
+  pub needed_by : List (List ActionId)
+
+-- the floor was made for the task: its goal is the task's, and its actions are those of the task that are
+-- neither blocked nor removed
+pub record IsFloorOf (t : PlainTask) (floor : PlainFloor) : Type 0 where
+  pub goal_in : floor.goal.0 < length t.goals
+  pub filed : AreFiled t floor.removed (length t.actions) floor.free floor.needed_by
 
 -- the level that a bound stands for: none for `Never`
 abbrev pub level_of : Bound → Option ℕ
 level_of (Steps n) = Some n
 level_of Never = None
 
--- the bound is at most n; `Never` is at most no number
-abbrev pub IsAtMost : Bound → ℕ → Type 0
-IsAtMost (Steps r) n = r ≤ n
-IsAtMost Never n = ⊥
+-- n steps are as many as the bound says are needed; for `Never` no number is enough
+abbrev pub MeetsBound : Bound → ℕ → Type 0
+MeetsBound (Steps r) n = r ≤ n
+MeetsBound Never n = ⊥
 
 -- the sets show the level of the goal at the state: where it is n, there are n of them and none has an
 -- empty cut; where it is none, there is one, with an empty cut
@@ -34,15 +41,6 @@ pub record ShowsLevel (t : PlainTask) (g : GoalId) (removed : List ActionId) (s 
   pub some : (n : ℕ) → IsLevel t g removed s (Some n)
       → (length sets ≡ n) × All (λ u. IsEmptyCut (cut t removed (set_of u)) → ⊥) sets
   pub none : IsLevel t g removed s None → (length sets ≡ 1) × All (λ u. IsEmptyCut (cut t removed (set_of u))) sets
-
--- the first number of at most n rounds after which the goal holds, or none
-unfoldable pub level_within : PlainTask → GoalId → List ActionId → State → ℕ → Option ℕ
-level_within t g removed s zero = if goal_holds t g s then Some 0 else None
-level_within t g removed s (suc n) = if goal_holds t g s then Some 0 else option_map (λ k. suc k) (level_within t g removed (grown t removed s) n)
-
--- the level of the goal at the state, computed: a round that reaches no atom is the last that tells more
-abbrev pub level_at : PlainTask → GoalId → List ActionId → State → Option ℕ
-level_at t g removed s = level_within t g removed s t.atoms
 
 -- the atoms before each of the first n rounds
 abbrev pub sets_before : PlainTask → List ActionId → State → ℕ → List (List AtomId)

@@ -1,6 +1,6 @@
 -- How the rounds of a level are made: which actions may reach more atoms, found through the atoms that
 -- were reached last.
-use Rattle.std.specs.Prelude.{◌≡◌, ℕ, zero, suc, ◌+◌, ◌<◌, Bool, false, not, ◌&&◌, ◌||◌, if◌then◌else◌, IsTrue, List, [], length, Some, slice_get, All, Contains}
+use Rattle.std.specs.Prelude.{◌≡◌, ℕ, ◌<◌, Bool, false, not, ◌&&◌, ◌||◌, IsTrue, List, [], length, Some, slice_get, All, Contains}
 use Rattle.std.specs.Option.{option_map_or}
 use Rattle.std.specs.List.{list_any}
 use Rattle.grd_base.specs.declared.ids.AtomId.{AtomId}
@@ -40,8 +40,3 @@ is_added t u n a = is_step t u a && option_map_or (λ act. set_of act.add n) (sl
 pub record IsGrowth (t : PlainTask) (u : State) (candidates : List ActionId) (reached : State) (fresh : List AtomId) : Type 0 where
   pub reached_all : (n : ℕ) → reached n ≡ (u n || list_any (is_added t u n) candidates)
   pub fresh_all : (n : ℕ) → set_of fresh n ≡ (reached n && not (u n))
-
--- how many numbers below n are not in the set
-abbrev pub missing : State → ℕ → ℕ
-missing u zero = 0
-missing u (suc n) = (if u n then 0 else 1) + missing u n

@@ -4,9 +4,9 @@ ghost use Rattle.grd_base.specs.Bits.{members};
 ghost use Rattle.strips_model.specs.Values.{AreAtoms};
 ghost use Rattle.strips_model.specs.Plans.{Reaches, IsOver};
 ghost use Rattle.strips_model.specs.Cuts.{IsFamily};
-ghost use Rattle.strips_model.specs.Levels.{IsLevel, grown};
-ghost use Rattle.level_bounds.specs.Floors.{PlainFloor, level_of, IsAtMost, ShowsLevel, family_of};
-ghost use Rattle.level_bounds.specs.Waves.{AreReady, missing};
+ghost use Rattle.strips_model.specs.Levels.{IsLevel, grown, missing};
+ghost use Rattle.level_bounds.specs.Floors.{IsFloorOf, level_of, MeetsBound, ShowsLevel, family_of};
+ghost use Rattle.level_bounds.specs.Waves.{AreReady};
 
 use crate::wave::{Wave, add_needing_state, file, grow, needing};
 use grd_base::{ActionId, ActionSet, Bits, Bound, GoalId, OutOfMemory, members_below};
@@ -14,40 +14,35 @@ use std::alloc::Global;
 use std::marker::Model;
 use strips_model::{AtomIndex, Family, Task, atoms_of, holds, known_task};
 
-/// Levels of a goal of a task without the removed actions.
+/// Levels of a goal of a task without the removed actions. Each call asks for the task that it was made for.
 #[derive(Drop)]
-pub struct LevelFloor<'t> {
-    task: &'t Task,
+pub struct LevelFloor {
     goal: GoalId,
-    removed: &'t ActionSet,
+    removed: ActionSet,
     free: Vec<ActionId>,
     needed_by: AtomIndex,
 }
 
-impl<'t> Model for LevelFloor<'t> {
-    ghost use Rattle.std.specs.Prelude.{◌<◌, length};
+impl Model for LevelFloor {
     ghost use Rattle.level_bounds.specs.Floors.{PlainFloor};
-    ghost use Rattle.level_bounds.specs.Waves.{AreFiled};
 
     ghost Value = { PlainFloor };
 
-    ghost view = { λ floor. record { task = floor.task.now; goal = floor.goal; removed = floor.removed.now } };
-
-    ghost invariant = { λ floor. AreFiled floor.task.now floor.removed.now (length floor.task.now.actions) floor.free.items floor.needed_by
-        × (floor.goal.0 < length floor.task.now.goals) };
+    ghost view = { λ floor. record { goal = floor.goal; removed = floor.removed; free = floor.free.items; needed_by = floor.needed_by } };
 }
 
-impl<'t> LevelFloor<'t> {
+impl LevelFloor {
     /// The floor of the goal, with the actions of the task by the atoms that they need.
     pub fn new(
         alloc: Global,
-        task: &'t Task,
+        task: &Task,
         goal: GoalId,
-        removed: &'t ActionSet,
-    ) -> Result<LevelFloor<'t>, OutOfMemory>
+        removed: &ActionSet,
+    ) -> Result<LevelFloor, OutOfMemory>
         requires goal { goal.0 < length task.now.goals }
-        ensures { IfOk result
-            (λ floor. floor ≡ (record { task = task.now; goal = goal; removed = removed.now })) }
+        ensures made { IfOk result (IsFloorOf task.now) }
+        ensures goal { IfOk result (λ floor. floor.goal ≡ goal) }
+        ensures removed { IfOk result (λ floor. floor.removed ≡ removed.now) }
     {
         let mut free = Vec::new(alloc);
         let mut needed_by = AtomIndex::new(alloc, task.atoms)?;
@@ -57,8 +52,8 @@ impl<'t> LevelFloor<'t> {
                 file(&mut free, &mut needed_by, a, action.pre.as_slice())?;
             }
         }
+        let removed = removed.try_clone(alloc)?;
         Ok(LevelFloor {
-            task,
             goal,
             removed,
             free,
@@ -67,18 +62,24 @@ impl<'t> LevelFloor<'t> {
     }
 
     /// The level of the goal at the state, and `Never` where it has none.
-    pub fn bound_at<const W: usize>(&self, alloc: Global, s: &Bits<W>) -> Result<Bound, OutOfMemory>
+    pub fn bound_at<const W: usize>(
+        &self,
+        alloc: Global,
+        task: &Task,
+        s: &Bits<W>,
+    ) -> Result<Bound, OutOfMemory>
+        requires made { IsFloorOf task.now self.now }
         requires width { W ≤ 64 }
-        requires atoms { self.now.task.atoms ≤ 64 * W }
+        requires atoms { task.now.atoms ≤ 64 * W }
         ensures level { IfOk result
-            (λ bound. IsLevel self.now.task self.now.goal self.now.removed (members s.now) (level_of bound)) }
+            (λ bound. IsLevel task.now self.now.goal self.now.removed (members s.now) (level_of bound)) }
         ensures steps { IfOk result (λ bound. (p : List ActionId)
-            → Reaches self.now.task self.now.goal self.now.removed (members s.now) p → IsAtMost bound (length p)) }
+            → Reaches task.now self.now.goal self.now.removed (members s.now) p → MeetsBound bound (length p)) }
     {
-        let mut wave = self.first(alloc, s)?;
+        let mut wave = self.first(alloc, task, s)?;
         let mut rounds = 0;
-        while !holds(self.task, &wave.reached, self.goal) {
-            if !self.advance(alloc, &mut wave)? {
+        while !holds(task, &wave.reached, self.goal) {
+            if !self.advance(alloc, task, &mut wave)? {
                 return Ok(Bound::Never);
             }
             rounds += 1;
@@ -91,26 +92,28 @@ impl<'t> LevelFloor<'t> {
     pub fn family_at<const W: usize>(
         &self,
         alloc: Global,
+        task: &Task,
         s: &Bits<W>,
     ) -> Result<Family, OutOfMemory>
+        requires made { IsFloorOf task.now self.now }
         requires width { W ≤ 64 }
-        requires atoms { self.now.task.atoms ≤ 64 * W }
+        requires atoms { task.now.atoms ≤ 64 * W }
         ensures family { IfOk result
-            (λ family. IsFamily self.now.task self.now.goal self.now.removed (members s.now) family) }
+            (λ family. IsFamily task.now self.now.goal self.now.removed (members s.now) family) }
         ensures level { IfOk result
-            (λ family. ShowsLevel self.now.task self.now.goal self.now.removed (members s.now) family) }
-        ensures atoms { IfOk result (λ family. IsOver self.now.task (members s.now)
-            → All (AreAtoms self.now.task.atoms) family) }
-        ensures exact { IfOk result (λ family. IsOver self.now.task (members s.now)
-            → family ≡ family_of self.now.task self.now.goal self.now.removed (members s.now)) }
+            (λ family. ShowsLevel task.now self.now.goal self.now.removed (members s.now) family) }
+        ensures atoms { IfOk result (λ family. IsOver task.now (members s.now)
+            → All (AreAtoms task.now.atoms) family) }
+        ensures exact { IfOk result (λ family. IsOver task.now (members s.now)
+            → family ≡ family_of task.now self.now.goal self.now.removed (members s.now)) }
     {
-        known_task(self.task);
-        let mut wave = self.first(alloc, s)?;
+        known_task(task);
+        let mut wave = self.first(alloc, task, s)?;
         let mut sets = Vec::new(alloc);
-        while !holds(self.task, &wave.reached, self.goal) {
+        while !holds(task, &wave.reached, self.goal) {
             members_below(&wave.reached);
             let set = atoms_of(alloc, &wave.reached, 64 * W as u32)?;
-            if !self.advance(alloc, &mut wave)? {
+            if !self.advance(alloc, task, &mut wave)? {
                 return Ok(Family {
                     sets: vec![in alloc; set]?,
                 });
@@ -121,14 +124,19 @@ impl<'t> LevelFloor<'t> {
     }
 
     /// The state before the first round.
-    fn first<const W: usize>(&self, alloc: Global, s: &Bits<W>) -> Result<Wave<W>, OutOfMemory>
+    fn first<const W: usize>(
+        &self,
+        alloc: Global,
+        task: &Task,
+        s: &Bits<W>,
+    ) -> Result<Wave<W>, OutOfMemory>
+        requires made { IsFloorOf task.now self.now }
         requires width { W ≤ 64 }
-        requires atoms { self.now.task.atoms ≤ 64 * W }
+        requires atoms { task.now.atoms ≤ 64 * W }
         ensures reached { IfOk result (λ wave. wave.reached ≡ s.now) }
         ensures ready { IfOk result
-            (λ wave. AreReady self.now.task self.now.removed (members s.now) wave.candidates.items) }
+            (λ wave. AreReady task.now self.now.removed (members s.now) wave.candidates.items) }
     {
-        let task = self.task;
         let mut candidates = Vec::from_slice(alloc, self.free.as_slice())?;
         add_needing_state(&mut candidates, &self.needed_by, s, task.atoms)?;
         Ok(Wave {
@@ -141,21 +149,23 @@ impl<'t> LevelFloor<'t> {
     fn advance<const W: usize>(
         &self,
         alloc: Global,
+        task: &Task,
         wave: &mut Wave<W>,
     ) -> Result<bool, OutOfMemory>
+        requires made { IsFloorOf task.now self.now }
         requires width { W ≤ 64 }
-        requires atoms { self.now.task.atoms ≤ 64 * W }
-        requires ready { AreReady self.now.task self.now.removed (members wave.old.reached) wave.old.candidates.items }
+        requires atoms { task.now.atoms ≤ 64 * W }
+        requires ready { AreReady task.now self.now.removed (members wave.old.reached) wave.old.candidates.items }
         ensures round { IfOk result (λ _. members wave.new.reached
-            ≡ grown self.now.task self.now.removed (members wave.old.reached)) }
+            ≡ grown task.now self.now.removed (members wave.old.reached)) }
         ensures ready { IfOk result
-            (λ _. AreReady self.now.task self.now.removed (members wave.new.reached) wave.new.candidates.items) }
+            (λ _. AreReady task.now self.now.removed (members wave.new.reached) wave.new.candidates.items) }
         ensures more { IfOk result (λ more. IsTrue more
-            → missing (members wave.new.reached) self.now.task.atoms < missing (members wave.old.reached) self.now.task.atoms) }
+            → missing (members wave.new.reached) task.now.atoms < missing (members wave.old.reached) task.now.atoms) }
         ensures closed { IfOk result
             (λ more. more ≡ false → members wave.new.reached ≡ members wave.old.reached) }
     {
-        let growth = grow(alloc, self.task, wave)?;
+        let growth = grow(alloc, task, wave)?;
         let more = !growth.fresh.is_empty();
         wave.candidates = needing(alloc, &self.needed_by, growth.fresh.as_slice())?;
         wave.reached = growth.reached;

@@ -1,6 +1,6 @@
 -- What the search for a path and the search for a cost find of a task.
 use Rattle.std.proofs.Common.{◌≡◌, ℕ, zero, suc, ◌*◌, ◌<◌, ◌≤◌, ◌⊎◌, inl, inr, Vec, Global, Result, Ok, Err, false, ◌||◌, List, [], ◌∷◌, length, map, refl, sym, ap, subst, ◌∙◌, arith, Option, Some, None}
-use Rattle.std.specs.Prelude.{All, Contains, IfNone, IsTrue, IsSomeAnd, IsErrAnd}
+use Rattle.std.specs.Prelude.{All, Contains, IfOk, IfNone, IsTrue, IsSomeAnd, IsErrAnd}
 use Rattle.std.proofs.lemmas.Bool.{ne_eqb}
 use Rattle.std.proofs.lemmas.List.Elements.{All-weaker, All-nil, All-head, All-tail}
 use Rattle.grd_base.specs.declared.bits.Bits.{Bits}
@@ -25,8 +25,9 @@ use Rattle.optimal_search.specs.Space.{successors_of, holds_in, level_in}
 use Rattle.optimal_search.specs.Floors.{shows_level}
 use Rattle.optimal_search.specs.Rows.{row_of}
 use Rattle.strips_model.specs.Reached.{IsNearWithin, IsNearWithout}
-use Rattle.optimal_search.specs.Least.{IsFar, RefuteFewer, AreTooMany}
-use Rattle.optimal_search.specs.Oracles.{PlainOracle, IsAlike, IsSoundOracle, HasStartRow}
+use Rattle.optimal_search.specs.Least.{IsLeast, IsFar, RefuteFewer, AreTooMany}
+use Rattle.optimal_search.specs.declared.least.Least.{Least}
+use Rattle.optimal_search.specs.Oracles.{PlainOracle, IsAlike, IsSoundOracle, IsLeastPlan, HasStartRow}
 use Rattle.optimal_search.proofs.SpaceLaws.{IsState, walk_leads, reaches_done, more_near}
 use Rattle.cost_certificate.proofs.OrderLemmas.{at_most_along}
 use Rattle.optimal_search.proofs.RowLaws.{rows_state, rows_valid, has_row, has_never}
@@ -80,6 +81,12 @@ none_weaker (Some x) P Q step holds = tt
 pub passed_on : {T U E : Type 0} (r : Result T E) (x e : E) → IsErrAnd r (λ y. y ≡ x) → r ≡ Err e → ◌≡◌ {A = Result U E} (Err x) (Err e)
 passed_on (Ok y) x e h is = absurd h
 passed_on (Err y) x e h is = let same : y ≡ e = cc in ap Err (sym h ∙ same)
+
+-- what the passes find from a bit set that is the start
+pub least_from : {W : ℕ} {M E : Type 0} (t : PlainTask) (g : GoalId) (removed : List ActionId) (limit : ℕ) (s : Bits W) → IsWhole s → members s ≡ start_of t → (result : Result (Least (Bits W) M) E)
+    → IfOk result (IsLeast (successors_of t removed) (holds_in t g) (level_in t g removed) (shows_level t g removed) s limit) → IfOk result (IsLeastPlan t g removed limit)
+least_from t g removed limit s whole begins (Ok found) least = record { first = s; whole = whole; begins = begins; least = least }
+least_from t g removed limit s whole begins (Err e) least = tt
 
 -- an oracle that is asked about this, without rows
 abbrev pub asked : PlainTask → GoalId → List ActionId → ℕ → PlainOracle

@@ -1,9 +1,8 @@
 -- What was found of a goal is its cost, and few states are kept.
 use Rattle.std.proofs.Common.{◌≡◌, ◌≢◌, ℕ, zero, suc, ◌*◌, ◌≤◌, ◌<◌, false, ◌||◌, List, [], ◌∷◌, ◌++◌, length, map, get_or, ap, sym, refl, ◌∙◌, arith, inl, inr, Option, Some, None, Result, Ok, Err}
 use mathlib.Core.Path.{subst, ap₂}
-use Rattle.std.specs.Prelude.{All, IsSomeAnd, IsErrAnd, IsTrue, slice_get}
+use Rattle.std.specs.Prelude.{All, IsSomeAnd, IsTrue, slice_get}
 use Rattle.std.specs.Option.{option_and_then}
-use Rattle.std.proofs.lemmas.Bool.{ne_eqb}
 use Rattle.std.proofs.lemmas.List.{length-map}
 use Rattle.std.proofs.lemmas.List.Elements.{All-nil, All-cons, All-head, All-tail, All-weaker, All-map}
 use Rattle.std.proofs.lemmas.List.Kept.{AllPairs-cons}
@@ -13,8 +12,8 @@ use Rattle.grd_base.specs.declared.ids.AtomId.{AtomId}
 use Rattle.grd_base.specs.declared.ids.ActionId.{ActionId}
 use Rattle.grd_base.specs.declared.ids.GoalId.{GoalId}
 use Rattle.grd_base.specs.declared.limits.Bound.TheVariants.{Steps, Never}
-use Rattle.grd_base.specs.Bits.{members, IsWhole}
-use Rattle.grd_base.specs.Counts.{AllDistinct, MoreThan}
+use Rattle.grd_base.specs.Bits.{members}
+use Rattle.grd_base.specs.Counts.{AllDistinct}
 use Rattle.grd_base.proofs.SameLemmas.{same_by_members}
 use Rattle.strips_model.specs.Values.{PlainTask, IsTask}
 use Rattle.strips_model.specs.Plans.{State, set_of, step_without, after, start_of, goal_holds, Reaches, IsPlan, IsOver}
@@ -29,36 +28,16 @@ use Rattle.cost_certificate.specs.Found.{PlainCost, IsShown, HasNothingElse}
 use Rattle.optimal_search.specs.Space.{successors_of, holds_in, level_in}
 use Rattle.optimal_search.specs.Floors.{shows_level}
 use Rattle.optimal_search.specs.Rows.{row_of}
-use Rattle.optimal_search.specs.Least.{IsLeast, IsFar, RefuteFewer, AreTooMany}
+use Rattle.optimal_search.specs.Least.{IsLeast, IsFar, RefuteFewer}
 use Rattle.optimal_search.specs.declared.least.Least.{Least}
 use Rattle.optimal_search.specs.Costs.{AreFewNear, IsRightCost}
-use Rattle.optimal_search.proofs.SpaceLaws.{IsState, walk_leads, reaches_done, counts_near, more_near}
+use Rattle.optimal_search.proofs.SpaceLaws.{IsState, walk_leads, reaches_done, counts_near}
 use Rattle.optimal_search.proofs.TakenLemmas.{at_push}
 use Rattle.optimal_search.proofs.RowLaws.{rows_state, rows_in_task, rows_valid, has_row, has_never, states_unmarked}
-
--- no atom of the list is past the bound of its atoms
-none_past : (xs : List AtomId) (bound n : ℕ) → All (λ a. a.0 < bound) xs → bound ≤ n → set_of xs n ≡ false
-none_past [] bound n below past = refl
-none_past (x ∷ xs) bound n below past =
-    let low : x.0 < bound = All-head (λ a. a.0 < bound) x xs below in
-    ap₂ ◌||◌ (ne_eqb x.0 n (omega (arith, low, past))) (none_past xs bound n (All-tail (λ a. a.0 < bound) x xs below) past)
 
 -- a shortest path of the space of the task, or none
 abbrev pub IsLeastOf : {W : ℕ} {M : Type 0} → PlainTask → GoalId → List ActionId → Bits W → ℕ → Least (Bits W) M → Type 0
 IsLeastOf t g removed s limit found = IsLeast (successors_of t removed) (holds_in t g) (level_in t g removed) (shows_level t g removed) s limit found
-
--- more states than the limit count in the space of the task
-abbrev pub AreTooManyOf : {W : ℕ} → PlainTask → GoalId → List ActionId → Bits W → ℕ → Type 0
-AreTooManyOf t g removed s limit = AreTooMany (successors_of t removed) (holds_in t g) (level_in t g removed) s limit
-
--- the space that was made for the task and the goal, without removed actions, is that of the task
-pub many_of_task : {W : ℕ} (t u : PlainTask) (g h : GoalId) (removed : List ActionId) (s : Bits W) (limit : ℕ) → u ≡ t → h ≡ g → removed ≡ [] → AreTooManyOf u h removed s limit → AreTooManyOf t g [] s limit
-many_of_task t u g h removed s limit same_task same_goal none many =
-    subst (λ x. AreTooManyOf x g [] s limit) same_task (subst (λ x. AreTooManyOf u x [] s limit) same_goal (subst (λ x. AreTooManyOf u h x s limit) none many))
-
--- the start is a state of the task
-pub start_state : {W : ℕ} (t : PlainTask) → IsTask t → (s : Bits W) → IsWhole s → members s ≡ start_of t → IsState t s
-start_state t is s whole begins = record { whole = whole; over = λ n past. ap (λ set. set n) begins ∙ none_past t.init t.atoms n is.init.below past }
 
 -- the actions of a sequence that leads somewhere are actions of the task
 pub in_range : (t : PlainTask) (removed : List ActionId) (p : List ActionId) (x u : State) → after t removed x p ≡ Some u → All (λ a. a.0 < length t.actions) p
@@ -109,17 +88,6 @@ module _ {W : ℕ} (t : PlainTask) (g : GoalId) (is : IsTask t) (wide : t.atoms 
     level_is = within.level_is;
     within = λ c cost. let low : r ≤ length cost.0.0 = far (length cost.0.0) (plan_done cost.0.0 cost.0.2) in omega (arith, low, within.near, cost.0.1);
   }
-
-  -- where too many states count, too many are near
-  pub too_many : (limit : ℕ) → AreTooManyOf t g [] s limit → MoreThan limit (IsNear t g)
-  too_many limit more =
-      let within = more_near t [] is wide g s more.0 limit state more.1 in
-      record {
-        items = within.items;
-        many = within.many;
-        differ = within.differ;
-        have = All-weaker (IsNearWithin t g [] (members s) more.0) (IsNear t g) (within_near more.0 more.2) within.items within.have;
-      }
 
   module _ {M : Type 0} (limit : ℕ) (rows : List (KeptRow (Bits W) M)) where
     module _ (r : ℕ) (far : IsFar (successors_of t []) (holds_in t g) s r) (counted : AreCounted (successors_of t []) (level_in t g []) s r limit rows) where
@@ -215,8 +183,3 @@ right_push t limit xs ys y i more each here right k x at = elim (at_push xs y k 
   | inl old ↦ right k x old
   | inr new ↦ subst (λ n. IsRightCost t (record { 0 = n }) limit x) (sym (new.0 ∙ each)) (subst (λ z. IsRightCost t (record { 0 = i }) limit z) new.1 here)
 ]
-
--- a fault that is passed on
-pub passed_on : {T U E : Type 0} (r : Result T E) (x e : E) → IsErrAnd r (λ y. y ≡ x) → r ≡ Err e → ◌≡◌ {A = Result U E} (Err x) (Err e)
-passed_on (Ok y) x e h is = absurd h
-passed_on (Err y) x e h is = let same : y ≡ e = cc in ap Err (sym h ∙ same)

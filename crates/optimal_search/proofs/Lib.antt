@@ -3,9 +3,9 @@ pub mod SpaceLaws
 mod RowLaws
 mod OracleLaws
 mod KeptLaws
-mod AskLaws
+pub mod AskLaws
 mod KeptLemmas
-mod TakenLemmas
+pub mod TakenLemmas
 mod LeastLemmas
 mod CostLaws
 mod LeftLemmas

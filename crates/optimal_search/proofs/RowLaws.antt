@@ -20,13 +20,12 @@ use Rattle.strips_model.proofs.StateListLemmas.{atoms_have, are_atoms}
 use Rattle.search_core.specs.declared.rows.KeptRow.{KeptRow}
 use Rattle.search_core.specs.Spaces.{IsWalk, end_of, actions_of, IsAtLeast, IsReachable}
 use Rattle.search_core.specs.Tables.{IsRefutedBySteps, IsRefutedByMark, AreRefuted, AreCounted, HasRow, HasNeverRow, unmarked, with_unmarked}
-use Rattle.cost_certificate.specs.Tables.{IsAtMost, IsSoundRow, SetsHold, RowsHold, StepsHold, CutsSuffice, HasEmptyCut, IsValidTable, IsRowOver, AreSets, HasRow as HasTableRow}
+use Rattle.cost_certificate.specs.Tables.{IsAtMost, IsSoundRow, SetsHold, RowsHold, StepsHold, CutsSuffice, HasEmptyCut, IsValidTable, IsRowOver, AreSets, HasRow as HasTableRow, with_state, states_by_steps}
 use Rattle.level_bounds.specs.Floors.{family_of}
 use Rattle.level_bounds.proofs.FamilyLaws.{family_is, family_long, family_empty, family_atoms}
 use Rattle.optimal_search.specs.Space.{successors_of, holds_in, level_in}
 use Rattle.optimal_search.specs.Floors.{shows_level}
 use Rattle.optimal_search.specs.Rows.{row_of, why_of, has_mark}
-use Rattle.optimal_search.specs.Costs.{with_state, states_by_steps}
 use Rattle.optimal_search.proofs.SpaceLaws.{IsState, leads_walk, reached_state}
 
 -- what holds of each element of a list that is made of another

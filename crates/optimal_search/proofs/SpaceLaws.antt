@@ -23,9 +23,9 @@ use Rattle.strips_model.specs.Cuts.{IsFamily}
 use Rattle.strips_model.specs.Levels.{grown, after_rounds, IsLevel}
 use Rattle.strips_model.specs.Reached.{IsNearWithin}
 use Rattle.search_core.specs.Spaces.{IsWalk, end_of, actions_of, IsDoneWithin, IsReachable, IsAtMostSteps, Counts}
+use Rattle.strips_model.proofs.LevelLaws.{goal_more, rounds_shift, step_within}
+use Rattle.strips_model.proofs.LevelNumbers.{level_at_is, level_at_of, level_at_low}
 use Rattle.level_bounds.specs.Floors.{PlainFloor, level_of, ShowsLevel}
-use Rattle.level_bounds.proofs.LevelLaws.{goal_more, rounds_shift}
-use Rattle.level_bounds.proofs.FamilyLaws.{level_at_is, level_at_of, level_at_low, step_within}
 use Rattle.optimal_search.specs.Space.{successors_of, holds_in, level_in}
 use Rattle.optimal_search.specs.Floors.{IsLevelBound, IsLevelProof, AreEnough}
 use Rattle.optimal_search.proofs.StepLaws.{step_over, packed_whole, packed_members, packed_within, successor_from, successor_has}
@@ -192,10 +192,11 @@ module _ {W : ℕ} (t : PlainTask) (removed : List ActionId) where
 
 module _ {W : ℕ} (t : PlainTask) (g : GoalId) (removed : List ActionId) (s : Bits W) where
   -- a bound of a floor whose level is that of the state is a bound from its level
-  pub level_bound : IsTask t → (floor : PlainFloor) → floor ≡ (record { task = t; goal = g; removed = removed }) → (bound : Bound) → IsLevel floor.task floor.goal floor.removed (members s) (level_of bound)
+  pub level_bound : IsTask t → (floor : PlainFloor) → floor.goal ≡ g → floor.removed ≡ removed → (bound : Bound) → IsLevel t floor.goal floor.removed (members s) (level_of bound)
       → IsLevelBound t g removed s bound
-  level_bound is floor same bound found =
-      let level : IsLevel t g removed (members s) (level_of bound) = subst (λ (f : PlainFloor). IsLevel f.task f.goal f.removed (members s) (level_of bound)) same found in
+  level_bound is floor goal without bound found =
+      let level : IsLevel t g removed (members s) (level_of bound) =
+      subst (λ (h : GoalId). IsLevel t h removed (members s) (level_of bound)) goal (subst (λ (l : List ActionId). IsLevel t floor.goal l (members s) (level_of bound)) without found) in
       record { level = level_at_of t g removed (members s) is (level_of bound) level; steps = level_below t removed g s bound level }
 
   -- a bound from the level of a state shows its level
@@ -220,9 +221,13 @@ module _ {W : ℕ} (t : PlainTask) (g : GoalId) (removed : List ActionId) (s : B
           (0, get_or sets 0 none, within, get_or_default sets 0 (get_or sets 0 none) none within, both.1 0 none within)
 
   -- where a floor made a family that shows the level, it proves each bound from it
-  pub level_proofs : IsTask t → (floor : PlainFloor) → floor ≡ (record { task = t; goal = g; removed = removed }) → {E : Type 0} (made : Result (List (List AtomId)) E)
-      → IfOk made (λ sets. IsFamily floor.task floor.goal floor.removed (members s) sets) → IfOk made (λ sets. ShowsLevel floor.task floor.goal floor.removed (members s) sets)
+  pub level_proofs : IsTask t → (floor : PlainFloor) → floor.goal ≡ g → floor.removed ≡ removed → {E : Type 0} (made : Result (List (List AtomId)) E)
+      → IfOk made (λ sets. IsFamily t floor.goal floor.removed (members s) sets) → IfOk made (λ sets. ShowsLevel t floor.goal floor.removed (members s) sets)
       → IfOk made (λ sets. (bound : Bound) → IsLevelBound t g removed s bound → IsLevelProof t g removed s sets bound)
-  level_proofs is floor same (Ok sets) family shows = λ bound shown.
-      level_proof is sets bound (subst (λ (f : PlainFloor). IsFamily f.task f.goal f.removed (members s) sets) same family) (subst (λ (f : PlainFloor). ShowsLevel f.task f.goal f.removed (members s) sets) same shows) shown
-  level_proofs is floor same (Err e) family shows = tt
+  level_proofs is floor goal without (Ok sets) family shows = λ bound shown.
+      let found : IsFamily t g removed (members s) sets =
+      subst (λ (h : GoalId). IsFamily t h removed (members s) sets) goal (subst (λ (l : List ActionId). IsFamily t floor.goal l (members s) sets) without family) in
+      let level : ShowsLevel t g removed (members s) sets =
+      subst (λ (h : GoalId). ShowsLevel t h removed (members s) sets) goal (subst (λ (l : List ActionId). ShowsLevel t floor.goal l (members s) sets) without shows) in
+      level_proof is sets bound found level shown
+  level_proofs is floor goal without (Err e) family shows = tt

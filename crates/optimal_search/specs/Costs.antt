@@ -1,25 +1,13 @@
 -- What `costs` answers for a goal.
-use Rattle.std.specs.Prelude.{ℕ, ◌≤◌, List, [], ◌∷◌, length, All, IfSome}
+use Rattle.std.specs.Prelude.{ℕ, ◌≤◌, List, [], length, All, IfSome}
 use Rattle.grd_base.specs.declared.ids.GoalId.{GoalId}
 use Rattle.grd_base.specs.Counts.{AllDistinct}
 use Rattle.strips_model.specs.Values.{PlainTask}
-use Rattle.strips_model.specs.Plans.{State, set_of, IsCost}
+use Rattle.strips_model.specs.Plans.{IsCost}
 use Rattle.strips_model.specs.Reached.{IsNear}
-use Rattle.cost_certificate.specs.declared.rows.Why.{Why}
-use Rattle.cost_certificate.specs.declared.rows.Why.TheVariants.{Cuts, Steps as BySteps}
 use Rattle.cost_certificate.specs.Rows.{PlainRow}
-use Rattle.cost_certificate.specs.Tables.{IsRowOver}
+use Rattle.cost_certificate.specs.Tables.{IsRowOver, states_by_steps}
 use Rattle.cost_certificate.specs.Found.{PlainCost, HasNothingElse, ShowsCost}
-
--- a state goes before others where its row is by steps
-abbrev pub with_state : Why → State → List State → List State
-with_state (Cuts sets) s others = others
-with_state BySteps s others = s ∷ others
-
--- the states of the rows by steps
-abbrev pub states_by_steps : List PlainRow → List State
-states_by_steps [] = []
-states_by_steps (row ∷ rows) = with_state row.why (set_of row.state) (states_by_steps rows)
 
 -- the rows by steps have states that are near for the goal, no two the same and at most `limit` of them
 pub record AreFewNear (t : PlainTask) (g : GoalId) (limit : ℕ) (rows : List PlainRow) : Type 0 where

@@ -1,3 +1,4 @@
+pub mod Promise
 pub mod Space
 pub mod Floors
 pub mod Least

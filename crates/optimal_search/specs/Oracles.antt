@@ -5,12 +5,16 @@ use Rattle.grd_base.specs.declared.ids.ActionId.{ActionId}
 use Rattle.grd_base.specs.declared.ids.GoalId.{GoalId}
 use Rattle.grd_base.specs.declared.limits.Bound.{Bound}
 use Rattle.grd_base.specs.declared.limits.Bound.TheVariants.{Steps, Never}
-use Rattle.grd_base.specs.Bits.{members}
+use Rattle.grd_base.specs.Bits.{members, IsWhole}
 use Rattle.strips_model.specs.Values.{PlainTask}
 use Rattle.strips_model.specs.Plans.{State, start_of, IsOver}
 use Rattle.cost_certificate.specs.Rows.{PlainRow}
 use Rattle.cost_certificate.specs.Tables.{HasRow, IsValidTable}
 use Rattle.optimal_search.specs.declared.kept.ProvedBound.{ProvedBound}
+use Rattle.optimal_search.specs.declared.least.Least.{Least}
+use Rattle.optimal_search.specs.Space.{successors_of, holds_in, level_in}
+use Rattle.optimal_search.specs.Floors.{shows_level}
+use Rattle.optimal_search.specs.Least.{IsLeast}
 use Rattle.optimal_search.specs.Rows.{rows_kept}
 
 -- an oracle: its task, goal and removed actions, how many states a question may count, and its rows
@@ -50,3 +54,10 @@ pub record AreKept {W : ℕ} (t : PlainTask) (g : GoalId) (removed : List Action
   pub over : All (λ s. IsOver t (members s)) states
   pub matched : length bounds ≡ length states
   pub valid : IsValidTable t g removed (rows_kept t g removed states bounds)
+
+-- how far the goal is from the start of the task, by the space of the two. Only private contracts speak of it
+pub record IsLeastPlan {W : ℕ} {M : Type 0} (t : PlainTask) (g : GoalId) (removed : List ActionId) (limit : ℕ) (found : Least (Bits W) M) : Type 0 where
+  pub first : Bits W
+  pub whole : IsWhole first
+  pub begins : members first ≡ start_of t
+  pub least : IsLeast (successors_of t removed) (holds_in t g) (level_in t g removed) (shows_level t g removed) first limit found

@@ -1,5 +1,5 @@
 -- The space of a task, a goal and removed actions: its states are bit sets.
-use Rattle.std.specs.Prelude.{ℕ, Bool, List, Option}
+use Rattle.std.specs.Prelude.{◌≡◌, ℕ, ◌*◌, ◌<◌, ◌≤◌, Bool, List, length, Option}
 use Rattle.std.specs.Option.{option_map}
 use Rattle.std.specs.List.{filter_map}
 use Rattle.grd_base.specs.declared.bits.Bits.{Bits}
@@ -9,7 +9,8 @@ use Rattle.grd_base.specs.Bits.{members, bits_of}
 use Rattle.strips_model.specs.Values.{PlainTask}
 use Rattle.strips_model.specs.Plans.{step, goal_holds}
 use Rattle.strips_model.specs.Moves.{allowed_of}
-use Rattle.level_bounds.specs.Floors.{level_at}
+use Rattle.strips_model.specs.Levels.{level_at}
+use Rattle.level_bounds.specs.Floors.{PlainFloor, IsFloorOf}
 
 -- the step of the action from the state, where it applies
 abbrev pub labelled_step : {W : ℕ} → PlainTask → Bits W → ActionId → Option (ActionId × Bits W)
@@ -26,3 +27,20 @@ holds_in t g s = goal_holds t g (members s)
 -- the level of the goal at the state
 abbrev pub level_in : {W : ℕ} → PlainTask → GoalId → List ActionId → Bits W → Option ℕ
 level_in t g removed s = level_at t g removed (members s)
+
+-- a space: its task, its goal and the actions that may not be used
+pub record PlainSpace : Type 0 where
+  pub task : PlainTask
+  pub goal : GoalId
+  pub removed : List ActionId
+
+-- what every space keeps: its states hold the atoms of the task, and its table and its floor are those of
+-- the task, the floor for the goal without the removed actions
+pub record IsSpaceOf (W : ℕ) (t : PlainTask) (g : GoalId) (removed : List ActionId) (table : PlainTask) (floor : PlainFloor) : Type 0 where
+  pub width : W ≤ 64
+  pub atoms : t.atoms ≤ 64 * W
+  pub goal_in : g.0 < length t.goals
+  pub table_of : table ≡ t
+  pub floor_of : IsFloorOf t floor
+  pub floor_goal : floor.goal ≡ g
+  pub floor_removed : floor.removed ≡ removed

@@ -1,13 +1,9 @@
 ghost use Rattle.std.specs.Prelude.{◌≡◌, ℕ, ◌*◌, ◌<◌, ◌≤◌, [], length, All, Some, IfOk, slice_get};
-ghost use Rattle.grd_base.specs.Bits.{members};
 ghost use Rattle.grd_base.specs.Counts.{MoreThan};
-ghost use Rattle.strips_model.specs.Plans.{start_of};
-ghost use Rattle.strips_model.specs.Reached.{IsNear};
+ghost use Rattle.strips_model.specs.Reached.{IsNear, IsNearWithout};
 ghost use Rattle.cost_certificate.specs.Found.{PlainCost};
 ghost use Rattle.optimal_search.specs.Costs.{IsRightCost};
-ghost use Rattle.optimal_search.specs.Floors.{shows_level};
-ghost use Rattle.optimal_search.specs.Space.{successors_of, holds_in, level_in};
-ghost use Rattle.optimal_search.specs.Least.{IsLeast};
+ghost use Rattle.optimal_search.specs.Oracles.{IsLeastPlan};
 
 use crate::faults::GoalSearchFault;
 use crate::least::{Least, find_least};
@@ -19,24 +15,40 @@ use search_core::SearchFault;
 use std::alloc::Global;
 use strips_model::{Task, fits, known_task, start};
 
+/// How far the goal is from the start of the task, by the space of the two.
+pub(crate) fn least_plan<const W: usize>(
+    alloc: Global,
+    space: &TaskSpace<W>,
+    states: u32,
+) -> Result<Least<Bits<W>, ()>, SearchFault>
+    requires { states ≤ 1000000 }
+    ensures least { IfOk result
+        (IsLeastPlan space.now.task space.now.goal space.now.removed states) }
+    ensures many { result ≡ Err SearchFault.TooManyStates
+        → MoreThan states (IsNearWithout space.now.task space.now.goal space.now.removed) }
+{
+    let task = space.task();
+    known_task(task);
+    fits(task);
+    let first = start(task);
+    whole(&first);
+    find_least(alloc, space, &SpaceFloor, first, states, task.atoms)
+}
+
 /// The cost that was found, with the path as a plan and the rows as a table.
 fn shown_cost<const W: usize>(
     alloc: Global,
     space: &TaskSpace<W>,
-    first: &Bits<W>,
     states: u32,
     found: Least<Bits<W>, ()>,
 ) -> Result<CostFound, OutOfMemory>
     requires states { states ≤ 1000000 }
-    requires removed { space.now.removed.now ≡ [] }
-    requires start { members first.now ≡ start_of space.now.task.now }
-    requires least { IsLeast (successors_of space.now.task.now []) (holds_in space.now.task.now space.now.goal)
-        (level_in space.now.task.now space.now.goal []) (shows_level space.now.task.now space.now.goal []) first.now states found }
-    ensures right { IfOk result (IsRightCost space.now.task.now space.now.goal states) }
-    ensures in_range { IfOk result (λ found. All (λ a. a.0 < length space.now.task.now.actions) found.plan) }
+    requires removed { space.now.removed ≡ [] }
+    requires least { IsLeastPlan space.now.task space.now.goal [] states found }
+    ensures right { IfOk result (IsRightCost space.now.task space.now.goal states) }
+    ensures in_range { IfOk result (λ found. All (λ a. a.0 < length space.now.task.actions) found.plan) }
 {
     known_task(space.task());
-    whole(first);
     match found {
         Least::Path(plan, rows) => {
             let table = table_of(alloc, space, rows.as_slice())?;
@@ -57,7 +69,47 @@ fn shown_cost<const W: usize>(
     }
 }
 
+/// The cost of the space's goal, with an optimal plan and a table.
+fn cost_in<const W: usize>(
+    alloc: Global,
+    space: &TaskSpace<W>,
+    states: u32,
+) -> Result<CostFound, SearchFault>
+    requires width { W ≤ 64 }
+    requires states { states ≤ 1000000 }
+    requires removed { space.now.removed ≡ [] }
+    ensures right { IfOk result (IsRightCost space.now.task space.now.goal states) }
+    ensures in_range { IfOk result (λ found. All (λ a. a.0 < length space.now.task.actions) found.plan) }
+    ensures many { result ≡ Err SearchFault.TooManyStates
+        → MoreThan states (IsNear space.now.task space.now.goal) }
+{
+    let found = least_plan(alloc, space, states)?;
+    let shown = shown_cost(alloc, space, states, found)?;
+    Ok(shown)
+}
+
 /// The cost of a goal, with an optimal plan and a table.
+fn cost_for<const W: usize>(
+    alloc: Global,
+    task: &Task,
+    goal: GoalId,
+    removed: &ActionSet,
+    states: u32,
+) -> Result<CostFound, SearchFault>
+    requires width { W ≤ 64 }
+    requires atoms { task.now.atoms ≤ 64 * W }
+    requires goal { goal.0 < length task.now.goals }
+    requires removed { removed.now ≡ [] }
+    requires states { states ≤ 1000000 }
+    ensures right { IfOk result (IsRightCost task.now goal states) }
+    ensures in_range { IfOk result (λ found. All (λ a. a.0 < length task.now.actions) found.plan) }
+    ensures many { result ≡ Err SearchFault.TooManyStates → MoreThan states (IsNear task.now goal) }
+{
+    let space = TaskSpace::<W>::new(alloc, task, goal, removed)?;
+    cost_in(alloc, &space, states)
+}
+
+/// The same, with the goal in its fault.
 fn cost_of<const W: usize>(
     alloc: Global,
     task: &Task,
@@ -75,15 +127,9 @@ fn cost_of<const W: usize>(
     ensures many { (g : GoalId) → result ≡ Err (GoalSearchFault.TooManyStates g)
         → (g.0 < length task.now.goals) × MoreThan states (IsNear task.now g) }
 {
-    let space = TaskSpace::<W>::new(alloc, task, goal, removed)?;
-    known_task(task);
-    fits(task);
-    let first = start(task);
-    whole(&first);
-    match find_least(alloc, &space, &SpaceFloor, first, states, task.atoms) {
-        Ok(found) => Ok(shown_cost(alloc, &space, &first, states, found)?),
-        Err(SearchFault::TooManyStates) => Err(GoalSearchFault::TooManyStates(goal)),
-        Err(SearchFault::OutOfMemory) => Err(GoalSearchFault::OutOfMemory),
+    match cost_for::<W>(alloc, task, goal, removed, states) {
+        Ok(found) => Ok(found),
+        Err(fault) => Err(GoalSearchFault::of(fault, goal)),
     }
 }
 

@@ -1,4 +1,8 @@
+ghost use Rattle.std.specs.Prelude.{◌≡◌, ◌↔◌};
+ghost use Rattle.grd_base.specs.declared.ids.GoalId.{GoalId};
+
 use grd_base::{GoalId, OutOfMemory};
+use search_core::SearchFault;
 use std::alloc::{AllocError, AllocFailed};
 use thiserror::Error;
 
@@ -10,6 +14,19 @@ pub enum GoalSearchFault {
     TooManyStates(GoalId),
     #[error("out of memory")]
     OutOfMemory,
+}
+
+impl GoalSearchFault {
+    /// What a search about this goal was refused for.
+    pub fn of(fault: SearchFault, goal: GoalId) -> GoalSearchFault
+        ensures { (g : GoalId) → (result ≡ GoalSearchFault.TooManyStates g)
+            ↔ ((fault ≡ SearchFault.TooManyStates) × (g ≡ goal)) }
+    {
+        match fault {
+            SearchFault::TooManyStates => GoalSearchFault::TooManyStates(goal),
+            SearchFault::OutOfMemory => GoalSearchFault::OutOfMemory,
+        }
+    }
 }
 
 impl From<AllocError> for GoalSearchFault {

@@ -17,7 +17,8 @@
 //! | `oracle.rt` | answers questions one by one, over what is kept |
 //! | `faults.rt` | why there is no answer |
 //!
-//! The definitions that contracts cite are in `specs/`: `Costs.antt`, `Oracles.antt`.
+//! The definitions that contracts cite are in `specs/`: `Costs.antt`, `Oracles.antt`, and `Space.antt` and
+//! `Floors.antt` for the space and its floor.
 
 #![tactic(auto)]
 
@@ -33,3 +34,4 @@ pub use cost::costs;
 pub use cost_certificate::CostFound;
 pub use faults::GoalSearchFault;
 pub use oracle::Oracle;
+pub use space::{SpaceFloor, TaskSpace};

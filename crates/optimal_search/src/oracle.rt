@@ -11,8 +11,9 @@ ghost use Rattle.optimal_search.specs.Rows.{row_of, rows_kept};
 ghost use Rattle.strips_model.specs.Reached.{IsNearWithin, IsNearWithout};
 ghost use Rattle.optimal_search.specs.Oracles.{IsAlike, HasAllOf, IsSoundOracle, HasStartRow};
 
+use crate::cost::least_plan;
 use crate::kept::Kept;
-use crate::least::{Least, find_least};
+use crate::least::Least;
 use crate::rows::row_at;
 use crate::space::{SpaceFloor, TaskSpace};
 use cost_certificate::{Row, Table, is_enough, rows_refute};
@@ -21,7 +22,7 @@ use search_core::{KeptRow, SearchFault, WithinAnswer, within};
 use state_store::StateStore;
 use std::alloc::Global;
 use std::marker::Model;
-use strips_model::{Task, fits, known_task, start};
+use strips_model::{Task, known_task};
 
 /// Answers questions about one task, one goal and one set of removed actions, and keeps the rows that
 /// it proves: they are a valid table after every call, also after one that was refused.
@@ -40,14 +41,14 @@ impl<'t, const W: usize> Model for Oracle<'t, W> {
     ghost Value = { PlainOracle };
 
     ghost view = { λ o. record {
-      task = o.space.task.now;
+      task = o.space.task;
       goal = o.space.goal;
-      removed = o.space.removed.now;
+      removed = o.space.removed;
       limit = o.limit;
-      rows = rows_kept o.space.task.now o.space.goal o.space.removed.now o.kept.states o.kept.bounds.items;
+      rows = rows_kept o.space.task o.space.goal o.space.removed o.kept.states o.kept.bounds.items;
     } };
 
-    ghost invariant = { λ o. AreKept o.space.task.now o.space.goal o.space.removed.now o.kept.states o.kept.bounds.items × (o.limit ≤ 1000000) };
+    ghost invariant = { λ o. AreKept o.space.task o.space.goal o.space.removed o.kept.states o.kept.bounds.items × (o.limit ≤ 1000000) };
 }
 
 impl<'t, const W: usize> Oracle<'t, W> {
@@ -152,19 +153,8 @@ impl<'t, const W: usize> Oracle<'t, W> {
         ensures many { result ≡ Err SearchFault.TooManyStates
             → MoreThan self.now.limit (IsNearWithout self.now.task self.now.goal self.now.removed) }
     {
-        let task = self.space.task();
-        known_task(task);
-        fits(task);
-        let first = start(task);
-        whole(&first);
-        match find_least(
-            alloc,
-            &self.space,
-            &SpaceFloor,
-            first,
-            self.limit,
-            task.atoms,
-        )? {
+        known_task(self.space.task());
+        match least_plan(alloc, &self.space, self.limit)? {
             Least::Path(plan, rows) => Ok((Some(plan.len() as u32), rows)),
             Least::Nowhere(rows) => Ok((None, rows)),
         }
@@ -231,10 +221,11 @@ fn rows_of<const W: usize>(
     space: &TaskSpace<W>,
     kept: &Kept<W>,
 ) -> Result<Vec<Row>, OutOfMemory>
-    requires over { All (λ s. IsOver space.now.task.now (members s)) kept.now.states }
+    requires width { W ≤ 64 }
+    requires over { All (λ s. IsOver space.now.task (members s)) kept.now.states }
     requires matched { length kept.now.bounds.items ≡ length kept.now.states }
     ensures { IfOk result (λ rows. rows.items
-        ≡ rows_kept space.now.task.now space.now.goal space.now.removed.now kept.now.states kept.now.bounds.items) }
+        ≡ rows_kept space.now.task space.now.goal space.now.removed kept.now.states kept.now.bounds.items) }
 {
     let mut rows = Vec::new(alloc);
     for n in 0..kept.bounds.len() {

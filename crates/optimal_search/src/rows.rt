@@ -18,9 +18,9 @@ pub(crate) fn row_at<const W: usize>(
     bound: Bound,
     by_level: bool,
 ) -> Result<Row, OutOfMemory>
-    requires over { IsOver space.now.task.now (members s.now) }
+    requires over { IsOver space.now.task (members s.now) }
     ensures { IfOk result
-        (λ row. row ≡ row_at space.now.task.now space.now.goal space.now.removed.now s.now bound by_level) }
+        (λ row. row ≡ row_at space.now.task space.now.goal space.now.removed s.now bound by_level) }
 {
     let task = space.task();
     let state = atoms_of(alloc, s, task.atoms)?;
@@ -38,9 +38,9 @@ pub(crate) fn table_of<const W: usize>(
     space: &TaskSpace<W>,
     rows: &[KeptRow<Bits<W>, ()>],
 ) -> Result<Table, OutOfMemory>
-    requires over { All (λ row. IsOver space.now.task.now (members row.state)) rows.now }
+    requires over { All (λ row. IsOver space.now.task (members row.state)) rows.now }
     ensures { IfOk result
-        (λ table. table ≡ map (row_of space.now.task.now space.now.goal space.now.removed.now) rows.now) }
+        (λ table. table ≡ map (row_of space.now.task space.now.goal space.now.removed) rows.now) }
 {
     let mut table = Vec::with_capacity(alloc, rows.len())?;
     for row in rows {

@@ -7,6 +7,7 @@ use grd_base::{ActionId, ActionSet, Bits, Bound, GoalId, OutOfMemory, packed, wh
 use level_bounds::LevelFloor;
 use search_core::{Floor, Space};
 use std::alloc::Global;
+use std::marker::Model;
 use strips_model::{Family, Task, apply_in, holds, known_task};
 use succ_table::SuccTable;
 
@@ -14,22 +15,27 @@ use succ_table::SuccTable;
 /// actions that are not removed, its done states are those in which the goal holds, and its levels are
 /// those of the goal.
 #[derive(Drop)]
-pub(crate) struct TaskSpace<'t, const W: usize> {
+pub struct TaskSpace<'t, const W: usize> {
     task: &'t Task,
     goal: GoalId,
     removed: &'t ActionSet,
     table: SuccTable<'t>,
-    floor: LevelFloor<'t>,
-    ghost width: { W ≤ 64 },
-    ghost atoms: { task.now.atoms ≤ 64 * W },
-    ghost goal_in: { goal.0 < length task.now.goals },
-    ghost table_of: { table ≡ task.now },
-    ghost floor_of: { floor ≡ (record { task = task.now; goal = goal; removed = removed.now }) },
+    floor: LevelFloor,
+}
+
+impl<'t, const W: usize> Model for TaskSpace<'t, W> {
+    ghost use Rattle.optimal_search.specs.Space.{PlainSpace, IsSpaceOf};
+
+    ghost Value = { PlainSpace };
+
+    ghost view = { λ space. record { task = space.task.now; goal = space.goal; removed = space.removed.now } };
+
+    ghost invariant = { λ space. IsSpaceOf W space.task.now space.goal space.removed.now space.table space.floor };
 }
 
 impl<'t, const W: usize> TaskSpace<'t, W> {
     /// The space, with the table of the task and the floor of the goal.
-    pub(crate) fn new(
+    pub fn new(
         alloc: Global,
         task: &'t Task,
         goal: GoalId,
@@ -38,9 +44,9 @@ impl<'t, const W: usize> TaskSpace<'t, W> {
         requires width { W ≤ 64 }
         requires atoms { task.now.atoms ≤ 64 * W }
         requires goal { goal.0 < length task.now.goals }
-        ensures task { IfOk result (λ space. space.task.now ≡ task.now) }
+        ensures task { IfOk result (λ space. space.task ≡ task.now) }
         ensures goal { IfOk result (λ space. space.goal ≡ goal) }
-        ensures removed { IfOk result (λ space. space.removed.now ≡ removed.now) }
+        ensures removed { IfOk result (λ space. space.removed ≡ removed.now) }
     {
         let table = SuccTable::build(alloc, task)?;
         let floor = LevelFloor::new(alloc, task, goal, removed)?;
@@ -53,20 +59,22 @@ impl<'t, const W: usize> TaskSpace<'t, W> {
         })
     }
 
-    /// The task.
-    pub(crate) fn task(&self) -> &'t Task
-        ensures { result.now ≡ self.now.task.now }
+    /// The task, whose atoms fit into a state.
+    pub fn task(&self) -> &'t Task
+        ensures same { result.now ≡ self.now.task }
+        ensures width { W ≤ 64 }
+        ensures atoms { self.now.task.atoms ≤ 64 * W }
     {
         self.task
     }
 
     /// The family that shows the level of the goal at a state of the task.
     pub(crate) fn family_at(&self, alloc: Global, s: &Bits<W>) -> Result<Family, OutOfMemory>
-        requires over { IsOver self.now.task.now (members s.now) }
+        requires over { IsOver self.now.task (members s.now) }
         ensures { IfOk result (λ family.
-            family ≡ family_of self.now.task.now self.now.goal self.now.removed.now (members s.now)) }
+            family ≡ family_of self.now.task self.now.goal self.now.removed (members s.now)) }
     {
-        self.floor.family_at(alloc, s)
+        self.floor.family_at(alloc, self.task, s)
     }
 }
 
@@ -76,11 +84,11 @@ impl<'t, const W: usize> Space for TaskSpace<'t, W> {
     ghost use Rattle.optimal_search.specs.Space.{successors_of, holds_in, level_in};
     ghost use Rattle.optimal_search.specs.Floors.{bits_same};
 
-    ghost next = { λ space s. successors_of space.task.now space.removed.now s };
+    ghost next = { λ space s. successors_of space.task space.removed s };
 
-    ghost is_done = { λ space s. holds_in space.task.now space.goal s };
+    ghost is_done = { λ space s. holds_in space.task space.goal s };
 
-    ghost level = { λ space s. level_in space.task.now space.goal space.removed.now s };
+    ghost level = { λ space s. level_in space.task space.goal space.removed s };
 
     ghost same = { bits_same };
 
@@ -106,9 +114,9 @@ impl<'t, const W: usize> Space for TaskSpace<'t, W> {
     }
 }
 
-/// The floor that the space keeps: the level of its goal.
+/// The floor of a space: the level of its goal. It asks the one that the space keeps.
 #[derive(Drop)]
-pub(crate) struct SpaceFloor;
+pub struct SpaceFloor;
 
 impl<'t, const W: usize> Floor<TaskSpace<'t, W>> for SpaceFloor {
     type Mark = ();
@@ -117,9 +125,9 @@ impl<'t, const W: usize> Floor<TaskSpace<'t, W>> for SpaceFloor {
 
     ghost use Rattle.optimal_search.specs.Floors.{shows_level, IsLevelProof, level_admissible};
 
-    ghost shows = { λ _ space s mark bound. shows_level space.task.now space.goal space.removed.now s mark bound };
+    ghost shows = { λ _ space s mark bound. shows_level space.task space.goal space.removed s mark bound };
 
-    ghost proves = { λ _ space s family bound. IsLevelProof space.task.now space.goal space.removed.now s family bound };
+    ghost proves = { λ _ space s family bound. IsLevelProof space.task space.goal space.removed s family bound };
 
     ghost admissible = { λ _ space s _ bound is. level_admissible _ _ _ s bound is };
 
@@ -130,7 +138,7 @@ impl<'t, const W: usize> Floor<TaskSpace<'t, W>> for SpaceFloor {
         s: &Bits<W>,
     ) -> Result<(Bound, ()), OutOfMemory> {
         known_task(space.task);
-        let bound = space.floor.bound_at(alloc, s)?;
+        let bound = space.floor.bound_at(alloc, space.task, s)?;
         Ok((bound, ()))
     }
 
@@ -142,6 +150,6 @@ impl<'t, const W: usize> Floor<TaskSpace<'t, W>> for SpaceFloor {
         _mark: &(),
     ) -> Result<Family, OutOfMemory> {
         known_task(space.task);
-        space.floor.family_at(alloc, s)
+        space.floor.family_at(alloc, space.task, s)
     }
 }

@@ -3,7 +3,8 @@ use Rattle.std.specs.Prelude.{All}
 use Rattle.std.proofs.lemmas.List.{length_push}
 use Rattle.std.proofs.lemmas.List.Elements.{All-push}
 use Rattle.cost_certificate.specs.Found.{PlainCost}
-use Rattle.optimal_search.proofs.CostLaws.{right_push, passed_on}
+use Rattle.optimal_search.proofs.AskLaws.{passed_on}
+use Rattle.optimal_search.proofs.CostLaws.{right_push}
 use Rattle.optimal_search.proofs.cost.all_costs.Goals as goal
 
 pub returns-in_err-cost_of-clause-many : goal.returns-in_err-cost_of-clause-many

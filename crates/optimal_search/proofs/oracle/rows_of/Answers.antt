@@ -16,7 +16,7 @@ loop-n-preserved g c =
     elim c.match-index.branch [
       | in-Some+in_ok-s+in_ok-row_at+in_ok-push w ↦
           ap (λ rows. rows.items) w.rows-is
-          ∙ rows_pushed space.task.now space.goal space.removed.now states bounds n w.in_ok-s.s.now w.in-Some.proved c.loop-n.rows.items w.push.new.self.items w.in_ok-row_at.field-0 w.in_ok-s.ensures (at ∙ ap Some w.in-Some.is)
+          ∙ rows_pushed space.task space.goal space.removed states bounds n w.in_ok-s.s.now w.in-Some.proved c.loop-n.rows.items w.push.new.self.items w.in_ok-row_at.field-0 w.in_ok-s.ensures (at ∙ ap Some w.in-Some.is)
           c.loop-n.invariant w.in_ok-push.ensures.items w.in_ok-row_at.ensures
-      | in_default w ↦ ap (λ rows. rows.items) w.rows-is ∙ c.loop-n.invariant ∙ sym (rows_kept_past space.task.now space.goal space.removed.now states bounds n c.requires.matched (at ∙ ap Some w.in_default.is))
+      | in_default w ↦ ap (λ rows. rows.items) w.rows-is ∙ c.loop-n.invariant ∙ sym (rows_kept_past space.task space.goal space.removed states bounds n c.requires.matched (at ∙ ap Some w.in_default.is))
     ]

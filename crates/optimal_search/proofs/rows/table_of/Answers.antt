@@ -23,6 +23,6 @@ pub loop-row-preserved : goal.loop-row-preserved
 loop-row-preserved g c =
     let space = c.args.space.now in
     let row = c.row-item.result in
-    next_row (row_of space.task.now space.goal space.removed.now) c.args.rows.now c.loop-row.row-index row c.loop-row.table.items c.push.new.self.items c.in_ok-row_at.field-0
+    next_row (row_of space.task space.goal space.removed) c.args.rows.now c.loop-row.row-index row c.loop-row.table.items c.push.new.self.items c.in_ok-row_at.field-0
     c.loop-row-test.true c.row-item.is c.loop-row.invariant c.in_ok-push.ensures.items
-    (c.in_ok-row_at.ensures ∙ ap (row_at space.task.now space.goal space.removed.now row.state row.bound) (c.is_some.ensures ∙ mark_told row.mark))
+    (c.in_ok-row_at.ensures ∙ ap (row_at space.task space.goal space.removed row.state row.bound) (c.is_some.ensures ∙ mark_told row.mark))

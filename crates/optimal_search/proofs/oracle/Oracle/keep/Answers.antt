@@ -13,18 +13,18 @@ use Rattle.optimal_search.proofs.oracle.Oracle.keep.Goals as goal
 pub invariant_of-self : goal.invariant_of-self
 invariant_of-self g c =
     let o = c.self.inside in
-    let task = o.space.task.now in
+    let task = o.space.task in
     let is = c.self.invariant.0 in
     let Over : PlainOracle → Type 0 = λ x. All (λ row. IsOver x.task (members row.state)) c.args.rows.now in
     let Valid : PlainOracle → Type 0 = λ x. IsValidTable x.task x.goal x.removed (map (row_of x.task x.goal x.removed) c.args.rows.now) in
-    let added = added_of c.keep.result o.kept.states o.kept.bounds.items c.keep.new.self.states c.keep.new.self.bounds.items c.args.rows.now c.keep.ensures.kept c.keep.ensures.refused task o.space.goal o.space.removed.now in (
+    let added = added_of c.keep.result o.kept.states o.kept.bounds.items c.keep.new.self.states c.keep.new.self.bounds.items c.args.rows.now c.keep.ensures.kept c.keep.ensures.refused task o.space.goal o.space.removed in (
       record {
         wide = is.wide;
         atoms = is.atoms;
         goal_in = is.goal_in;
         over = c.keep.ensures.over task is.over (subst Over (sym c.self.view_is) c.requires.over);
         matched = c.keep.ensures.matched;
-        valid = added_valid task o.space.goal o.space.removed.now _ _ c.args.rows.now added is.valid (subst Valid (sym c.self.view_is) c.requires.valid);
+        valid = added_valid task o.space.goal o.space.removed _ _ c.args.rows.now added is.valid (subst Valid (sym c.self.view_is) c.requires.valid);
       },
       c.self.invariant.1,
     )
@@ -32,10 +32,10 @@ invariant_of-self g c =
 pub returns-clause-grows : goal.returns-clause-grows
 returns-clause-grows g c =
     let o = c.self.inside in
-    let task = o.space.task.now in
-    let added = added_of c.keep.result o.kept.states o.kept.bounds.items c.keep.new.self.states c.keep.new.self.bounds.items c.args.rows.now c.keep.ensures.kept c.keep.ensures.refused task o.space.goal o.space.removed.now in
-    let Grows : PlainOracle → Type 0 = λ x. HasAllOf x.rows (rows_kept task o.space.goal o.space.removed.now c.keep.new.self.states c.keep.new.self.bounds.items) in
-    subst Grows c.self.view_is (added_old task o.space.goal o.space.removed.now _ _ c.args.rows.now added)
+    let task = o.space.task in
+    let added = added_of c.keep.result o.kept.states o.kept.bounds.items c.keep.new.self.states c.keep.new.self.bounds.items c.args.rows.now c.keep.ensures.kept c.keep.ensures.refused task o.space.goal o.space.removed in
+    let Grows : PlainOracle → Type 0 = λ x. HasAllOf x.rows (rows_kept task o.space.goal o.space.removed c.keep.new.self.states c.keep.new.self.bounds.items) in
+    subst Grows c.self.view_is (added_old task o.space.goal o.space.removed _ _ c.args.rows.now added)
 
 pub returns-clause-sound : goal.returns-clause-sound
 returns-clause-sound g c = (invariant_of-self g c).0.valid
@@ -43,7 +43,7 @@ returns-clause-sound g c = (invariant_of-self g c).0.valid
 pub returns-clause-held : goal.returns-clause-held
 returns-clause-held g c =
     let o = c.self.inside in
-    let task = o.space.task.now in
-    let held = held_of c.keep.result o.kept.states o.kept.bounds.items c.keep.new.self.states c.keep.new.self.bounds.items c.args.rows.now c.keep.ensures.kept task o.space.goal o.space.removed.now in
-    let Held : PlainOracle → Type 0 = λ x. IfOk c.keep.result (λ _. HasAllOf (map (row_of x.task x.goal x.removed) c.args.rows.now) (rows_kept task o.space.goal o.space.removed.now c.keep.new.self.states c.keep.new.self.bounds.items)) in
+    let task = o.space.task in
+    let held = held_of c.keep.result o.kept.states o.kept.bounds.items c.keep.new.self.states c.keep.new.self.bounds.items c.args.rows.now c.keep.ensures.kept task o.space.goal o.space.removed in
+    let Held : PlainOracle → Type 0 = λ x. IfOk c.keep.result (λ _. HasAllOf (map (row_of x.task x.goal x.removed) c.args.rows.now) (rows_kept task o.space.goal o.space.removed c.keep.new.self.states c.keep.new.self.bounds.items)) in
     subst Held c.self.view_is held

@@ -20,5 +20,5 @@ no_rows t u g h removed without limit states bounds same_task same_goal same_rem
 
 pub returns : goal.returns
 returns g c =
-    no_rows c.args.task.now c.in_ok-space.space.task.now c.args.goal c.in_ok-space.space.goal c.args.removed.now c.in_ok-space.space.removed.now c.args.limits.states
+    no_rows c.args.task.now c.in_ok-space.space.task c.args.goal c.in_ok-space.space.goal c.args.removed.now c.in_ok-space.space.removed c.args.limits.states
     c.new-2.result.states c.new-2.result.bounds.items c.in_ok-space.ensures.task c.in_ok-space.ensures.goal c.in_ok-space.ensures.removed c.new-2.ensures.states c.new-2.ensures.bounds

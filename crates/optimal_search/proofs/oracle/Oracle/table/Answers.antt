@@ -10,10 +10,10 @@ pub returns-in_err-rows-clause-over : goal.returns-in_err-rows-clause-over
 returns-in_err-rows-clause-over g c =
     let o = c.self.inside in
     let Over : PlainOracle → Type 0 = λ x. All (IsRowOver x.task) x.rows in
-    subst Over c.self.view_is (rows_are_over o.space.task.now o.space.goal o.space.removed.now o.kept.states o.kept.bounds.items)
+    subst Over c.self.view_is (rows_are_over o.space.task o.space.goal o.space.removed o.kept.states o.kept.bounds.items)
 
 pub returns-clause-over : goal.returns-clause-over
 returns-clause-over g c =
     let o = c.self.inside in
     let Over : PlainOracle → Type 0 = λ x. All (IsRowOver x.task) x.rows in
-    subst Over c.self.view_is (rows_are_over o.space.task.now o.space.goal o.space.removed.now o.kept.states o.kept.bounds.items)
+    subst Over c.self.view_is (rows_are_over o.space.task o.space.goal o.space.removed o.kept.states o.kept.bounds.items)
