@@ -1,7 +1,7 @@
 -- What an oracle of the observed task, asked from its start within the cost, says of the verdict.
 use mathlib.Core.Path.{ap₂}
-use Rattle.std.proofs.Common.{◌≡◌, ◌↔◌, ◌⊎◌, inl, inr, ℕ, zero, suc, ◌≤◌, ◌<◌, Result, Ok, Err, List, [], ◌∷◌, ◌++◌, length, map, get_or, eqb, refl, sym, ap, subst, ◌∙◌, arith, Option, Some, None}
-use Rattle.std.specs.Prelude.{All, IsErrAnd, slice_get}
+use Rattle.std.proofs.Common.{◌≡◌, ◌↔◌, inl, inr, ℕ, ◌≤◌, ◌<◌, List, [], ◌∷◌, ◌++◌, length, map, get_or, eqb, sym, ap, subst, ◌∙◌, arith, Option, Some, None}
+use Rattle.std.specs.Prelude.{All, slice_get}
 use Rattle.std.specs.Option.{option_map_or}
 use Rattle.std.proofs.lemmas.Bool.{ne_eqb}
 use Rattle.std.proofs.lemmas.List.{length-map}
@@ -22,23 +22,9 @@ use Rattle.cost_certificate.specs.Found.{PlainCost}
 use Rattle.cost_certificate.specs.Rows.{PlainRow}
 use Rattle.cost_certificate.specs.Tables.{HasRow, IsRowOver, IsValidTable}
 use Rattle.optimal_search.specs.Oracles.{PlainOracle, IsAlike, IsSoundOracle}
+use Rattle.optimal_search.proofs.TakenLemmas.{at_push}
 use Rattle.strips_model.specs.Observed.{observed_task, read_as}
 use Rattle.cost_certificate.specs.Verdicts.{ShowsNo, plain_verdict, IsRightVerdict}
-
--- a fault that is passed on is the same
-pub passed_on : {T U E : Type 0} (r : Result T E) (x e : E) → IsErrAnd r (λ y. y ≡ x) → r ≡ Err e → ◌≡◌ {A = Result U E} (Err x) (Err e)
-passed_on (Ok y) x e h is = absurd h
-passed_on (Err y) x e h is = let same : y ≡ e = cc in ap Err (sym h ∙ same)
-
--- an element behind others, or one of them
-at_push : {X : Type 0} (xs : List X) (x : X) (i : ℕ) (y : X) → slice_get (xs ++ x ∷ []) i ≡ Some y → (slice_get xs i ≡ Some y) ⊎ ((i ≡ length xs) × (x ≡ y))
-at_push [] x zero y e = inr (refl, cc)
-at_push [] x (suc i) y e = cc
-at_push (z ∷ xs) x zero y e = inl e
-at_push (z ∷ xs) x (suc i) y e = elim (at_push xs x i y e) as (λ _. (slice_get (z ∷ xs) (suc i) ≡ Some y) ⊎ ((suc i ≡ length (z ∷ xs)) × (x ≡ y))) [
-  | inl before ↦ inl before
-  | inr last ↦ inr (ap suc last.0, last.1)
-]
 
 -- the start has atoms of the task alone
 pub start_over : (t : PlainTask) (s : State) → IsTask t → s ≡ start_of t → IsOver t s
@@ -46,17 +32,6 @@ start_over t s is same = λ n high.
     ap (λ (x : State). x n) same ∙ list_any_none (λ (a : AtomId). eqb a.0 n) t.init (λ i d within. ne_eqb (get_or t.init i d).0 n (omega (arith, high, is.init.below i d within)))
 
 module _ (t : PlainTask) (os : List ActionId) (g : GoalId) where
-  -- an oracle that is asked about the observed task, without rows
-  abbrev pub asked : ℕ → PlainOracle
-  asked limit = record { task = observed_task t os; goal = g; removed = []; limit = limit; rows = [] }
-
-  -- one that is made for what is the observed task, and for no removed actions
-  pub asked_about : (o : PlainOracle) (made : PlainTask) (removed : List ActionId) (limit : ℕ) → o ≡ (record { task = made; goal = g; removed = removed; limit = limit; rows = [] })
-      → made ≡ observed_task t os → removed ≡ [] → o ≡ asked limit
-  asked_about o made removed limit new same none =
-      let about : PlainTask → List ActionId → PlainOracle = λ u xs. record { task = u; goal = g; removed = xs; limit = limit; rows = [] } in
-      new ∙ ap₂ about same none
-
   -- a goal without a plan is not recognised
   pub none_right : (table : List PlainRow) → IsCost t g [] None → table ≡ [] → (IsRecognised t g os → ⊥) × ShowsNo (observed_task t os) g table None
   none_right table none empty = (λ is. none is.plan is.optimal.0, empty)
@@ -82,44 +57,49 @@ module _ (t : PlainTask) (os : List ActionId) (g : GoalId) where
     near_observed : (u : State) → IsNearWithin (observed_task t os) g [] (start_of (observed_task t os)) c u → IsNearObserved t os g u
     near_observed u near = record { cost = c; is_cost = cost; near = near }
 
-    module _ (limit : ℕ) (x : PlainOracle) (is : x ≡ asked limit) (s : State) (start : s ≡ start_of (observed_task t os)) where
-      -- what the oracle is asked about from the start is a plan of the observed task
-      reaches_plan : (p : List ActionId) → Reaches x.task x.goal x.removed s p ≡ IsPlan (observed_task t os) g [] p
-      reaches_plan p = ap₂ (λ (o : PlainOracle) (v : State). Reaches o.task o.goal o.removed v p) is start
+-- an oracle that is asked about the observed task from its start, within what its goal costs in the task
+module _ (t : PlainTask) (os : List ActionId) (x : PlainOracle) (made : x.task ≡ observed_task t os) (none : x.removed ≡ []) (s : State) (start : s ≡ start_of x.task) where
+  from_start : s ≡ start_of (observed_task t os)
+  from_start = start ∙ ap start_of made
 
-      -- a path that the oracle finds is a plan of the observed task
-      pub found_plan : (p : List ActionId) → Reaches x.task x.goal x.removed s p → IsPlan (observed_task t os) g [] p
-      found_plan p reaches = subst (λ (T : Type 0). T) (reaches_plan p) reaches
+  -- what it is asked about from the start is a plan of the observed task
+  reaches_plan : (p : List ActionId) → Reaches x.task x.goal x.removed s p ≡ IsPlan (observed_task t os) x.goal [] p
+  reaches_plan p = ap₂ (λ (u : PlainTask) (xs : List ActionId). Reaches u x.goal xs s p) made none ∙ ap (λ (v : State). Reaches (observed_task t os) x.goal [] v p) from_start
 
-      -- more states that are near within the cost are more near states
-      pub many_near : MoreThan x.limit (IsNearWithin x.task x.goal x.removed s c) → MoreThan limit (IsNearObserved t os g)
-      many_near more =
-          let Near : PlainOracle → State → State → Type 0 = λ o v u. IsNearWithin o.task o.goal o.removed v c u in
-          let near : All (IsNearWithin (observed_task t os) g [] (start_of (observed_task t os)) c) more.items =
-          subst (λ (v : State). All (Near (asked limit) v) more.items) start (subst (λ (o : PlainOracle). All (Near o s) more.items) is more.have) in
-          record {
-            items = more.items;
-            many = omega (arith, more.many, ap (λ (o : PlainOracle). o.limit) is);
-            differ = more.differ;
-            have = All-weaker (IsNearWithin (observed_task t os) g [] (start_of (observed_task t os)) c) (IsNearObserved t os g) near_observed more.items near;
-          }
+  -- a path that it finds is a plan of the observed task
+  pub found_plan : (p : List ActionId) → Reaches x.task x.goal x.removed s p → IsPlan (observed_task t os) x.goal [] p
+  found_plan p reaches = subst (λ (T : Type 0). T) (reaches_plan p) reaches
 
-      -- where the oracle finds no path, the goal is not recognised, as its rows show
-      pub no_right : (y : PlainOracle) (table : List PlainRow) → IsAlike x y → IsSoundOracle y → All (IsRowOver y.task) y.rows → table ≡ y.rows → HasRow y.rows s (Steps c)
-          → ((p : List ActionId) → Reaches x.task x.goal x.removed s p → c < length p) → (IsRecognised t g os ↔ IsCost (observed_task t os) g [] (Some c))
-          → (IsRecognised t g os → ⊥) × ShowsNo (observed_task t os) g table (Some c)
-      no_right y table alike sound over rows row longer law =
-          let task : y.task ≡ observed_task t os = sym alike.task ∙ ap (λ (o : PlainOracle). o.task) is in
-          let goal : y.goal ≡ g = sym alike.goal ∙ ap (λ (o : PlainOracle). o.goal) is in
-          let removed : y.removed ≡ [] = sym alike.removed ∙ ap (λ (o : PlainOracle). o.removed) is in
-          let by_task : IsValidTable (observed_task t os) y.goal y.removed y.rows = subst (λ (u : PlainTask). IsValidTable u y.goal y.removed y.rows) task sound in
-          let by_goal : IsValidTable (observed_task t os) g y.removed y.rows = subst (λ (h : GoalId). IsValidTable (observed_task t os) h y.removed y.rows) goal by_task in
-          let valid : IsValidTable (observed_task t os) g [] y.rows = subst (λ (xs : List ActionId). IsValidTable (observed_task t os) g xs y.rows) removed by_goal in
-          let from : HasRow y.rows (start_of (observed_task t os)) (Steps c) = subst (λ (v : State). HasRow y.rows v (Steps c)) start row in
-          let each : All (IsRowOver (observed_task t os)) y.rows = subst (λ (u : PlainTask). All (IsRowOver u) y.rows) task over in (
-            not_recognised law (λ p plan. longer p (subst (λ (T : Type 0). T) (sym (reaches_plan p)) plan)),
-            subst (λ (xs : List PlainRow). ShowsNo (observed_task t os) g xs (Some c)) (sym rows) (valid, from, each),
-          )
+  module _ (c : ℕ) (cost : IsCost t x.goal [] (Some c)) where
+    -- more states that are near within the cost are more near states
+    pub many_near : (limit : ℕ) → MoreThan limit (IsNearWithin x.task x.goal x.removed s c) → MoreThan limit (IsNearObserved t os x.goal)
+    many_near limit more =
+        let Near : PlainTask → List ActionId → State → State → Type 0 = λ u xs v w. IsNearWithin u x.goal xs v c w in
+        let by_task : All (Near (observed_task t os) x.removed s) more.items = subst (λ (u : PlainTask). All (Near u x.removed s) more.items) made more.have in
+        let by_removed : All (Near (observed_task t os) [] s) more.items = subst (λ (xs : List ActionId). All (Near (observed_task t os) xs s) more.items) none by_task in
+        let near : All (Near (observed_task t os) [] (start_of (observed_task t os))) more.items = subst (λ (v : State). All (Near (observed_task t os) [] v) more.items) from_start by_removed in
+        record {
+          items = more.items;
+          many = more.many;
+          differ = more.differ;
+          have = All-weaker (Near (observed_task t os) [] (start_of (observed_task t os))) (IsNearObserved t os x.goal) (near_observed t os x.goal c cost) more.items near;
+        }
+
+    -- where it finds no path, the goal is not recognised, as its rows show
+    pub no_right : (y : PlainOracle) (table : List PlainRow) → IsAlike x y → IsSoundOracle y → All (IsRowOver y.task) y.rows → table ≡ y.rows → HasRow y.rows s (Steps c)
+        → ((p : List ActionId) → Reaches x.task x.goal x.removed s p → c < length p) → (IsRecognised t x.goal os ↔ IsCost (observed_task t os) x.goal [] (Some c))
+        → (IsRecognised t x.goal os → ⊥) × ShowsNo (observed_task t os) x.goal table (Some c)
+    no_right y table alike sound over rows row longer law =
+        let task : y.task ≡ observed_task t os = sym alike.task ∙ made in
+        let removed : y.removed ≡ [] = sym alike.removed ∙ none in
+        let by_task : IsValidTable (observed_task t os) y.goal y.removed y.rows = subst (λ (u : PlainTask). IsValidTable u y.goal y.removed y.rows) task sound in
+        let by_goal : IsValidTable (observed_task t os) x.goal y.removed y.rows = subst (λ (h : GoalId). IsValidTable (observed_task t os) h y.removed y.rows) (sym alike.goal) by_task in
+        let valid : IsValidTable (observed_task t os) x.goal [] y.rows = subst (λ (xs : List ActionId). IsValidTable (observed_task t os) x.goal xs y.rows) removed by_goal in
+        let from : HasRow y.rows (start_of (observed_task t os)) (Steps c) = subst (λ (v : State). HasRow y.rows v (Steps c)) from_start row in
+        let each : All (IsRowOver (observed_task t os)) y.rows = subst (λ (u : PlainTask). All (IsRowOver u) y.rows) task over in (
+          not_recognised t os x.goal c cost law (λ p plan. longer p (subst (λ (T : Type 0). T) (sym (reaches_plan p)) plan)),
+          subst (λ (xs : List PlainRow). ShowsNo (observed_task t os) x.goal xs (Some c)) (sym rows) (valid, from, each),
+        )
 
 -- the verdicts on the first goals are right
 abbrev pub AreRight : PlainTask → List ActionId → List PlainCost → List Verdict → Type 0

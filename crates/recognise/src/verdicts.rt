@@ -1,6 +1,7 @@
 ghost use Rattle.std.specs.Prelude.{◌≡◌, ℕ, ◌*◌, ◌^◌, ◌<◌, ◌≤◌, [], length, map, All, Some, IfOk, slice_get};
+ghost use Rattle.grd_base.specs.Bits.{members};
 ghost use Rattle.grd_base.specs.Counts.{MoreThan};
-ghost use Rattle.strips_model.specs.Plans.{IsCost};
+ghost use Rattle.strips_model.specs.Plans.{start_of, IsCost, IsOver};
 ghost use Rattle.strips_model.specs.Reached.{IsNearObserved};
 ghost use Rattle.cost_certificate.specs.declared.found.Verdict.{Verdict};
 ghost use Rattle.cost_certificate.specs.Found.{PlainCost};
@@ -8,7 +9,7 @@ ghost use Rattle.strips_model.specs.Observed.{observed_task, read_as};
 ghost use Rattle.cost_certificate.specs.Verdicts.{plain_verdict, IsRightVerdict};
 
 use cost_certificate::{CostFound, Table, Verdict};
-use grd_base::{ActionId, ActionSet, GoalId, Limits, OutOfMemory, by_width};
+use grd_base::{ActionId, ActionSet, Bits, GoalId, Limits, OutOfMemory, by_width};
 use observation_compile::{observed, plans_embed};
 use optimal_search::{GoalSearchFault, Oracle};
 use search_core::SearchFault;
@@ -37,7 +38,60 @@ fn read(
     Ok(plan)
 }
 
+/// The verdict on the goal of an oracle of the observed task, which costs so much in the task.
+fn ask<const W: usize>(
+    alloc: Global,
+    task: &Task,
+    observations: &[ActionId],
+    oracle: &mut Oracle<W>,
+    first: &Bits<W>,
+    cost: u32,
+) -> Result<Verdict, SearchFault>
+    requires made { oracle.old.task ≡ observed_task task.now observations.now }
+    requires removed { oracle.old.removed ≡ [] }
+    requires first { members first.now ≡ start_of oracle.old.task }
+    requires over { IsOver oracle.old.task (members first.now) }
+    requires cost { IsCost task.now oracle.old.goal [] (Some cost) }
+    ensures right { IfOk result (λ verdict. IsRightVerdict task.now observations.now oracle.old.goal (Some cost) (plain_verdict verdict)) }
+    ensures many { result ≡ Err SearchFault.TooManyStates
+        → MoreThan oracle.old.limit (IsNearObserved task.now observations.now oracle.old.goal) }
+{
+    known_task(task);
+    plans_embed();
+    match oracle.within(alloc, first, cost)? {
+        Some(path) => Ok(Verdict::Yes(read(alloc, task, observations, path.as_slice())?)),
+        None => Ok(Verdict::No(oracle.table(alloc)?)),
+    }
+}
+
 /// The verdict on a goal of this cost.
+fn verdict_for<const W: usize>(
+    alloc: Global,
+    task: &Task,
+    observations: &[ActionId],
+    made: &Task,
+    goal: GoalId,
+    cost: u32,
+    limits: Limits,
+) -> Result<Verdict, SearchFault>
+    requires width { W ≤ 64 }
+    requires atoms { made.now.atoms ≤ 64 * W }
+    requires made { made.now ≡ observed_task task.now observations.now }
+    requires goal { goal.0 < length made.now.goals }
+    requires cost { IsCost task.now goal [] (Some cost) }
+    requires limits { (limits.states ≤ 1000000) × (limits.sets ≤ 1000000) }
+    ensures right { IfOk result (λ verdict. IsRightVerdict task.now observations.now goal (Some cost) (plain_verdict verdict)) }
+    ensures many { result ≡ Err SearchFault.TooManyStates
+        → MoreThan limits.states (IsNearObserved task.now observations.now goal) }
+{
+    known_task(made);
+    let first = start::<W>(made);
+    let removed = ActionSet::new(alloc);
+    let mut oracle = Oracle::new(alloc, made, goal, &removed, limits)?;
+    ask(alloc, task, observations, &mut oracle, &first, cost)
+}
+
+/// The same, with the goal in its fault.
 fn verdict_of<const W: usize>(
     alloc: Global,
     task: &Task,
@@ -57,17 +111,9 @@ fn verdict_of<const W: usize>(
     ensures many { (g : GoalId) → result ≡ Err (GoalSearchFault.TooManyStates g)
         → (g ≡ goal) × MoreThan limits.states (IsNearObserved task.now observations.now g) }
 {
-    known_task(task);
-    known_task(made);
-    plans_embed();
-    let removed = ActionSet::new(alloc);
-    let first = start::<W>(made);
-    let mut oracle = Oracle::new(alloc, made, goal, &removed, limits)?;
-    match oracle.within(alloc, &first, cost) {
-        Ok(Some(path)) => Ok(Verdict::Yes(read(alloc, task, observations, &path)?)),
-        Ok(None) => Ok(Verdict::No(oracle.table(alloc)?)),
-        Err(SearchFault::TooManyStates) => Err(GoalSearchFault::TooManyStates(goal)),
-        Err(SearchFault::OutOfMemory) => Err(GoalSearchFault::OutOfMemory),
+    match verdict_for::<W>(alloc, task, observations, made, goal, cost, limits) {
+        Ok(verdict) => Ok(verdict),
+        Err(fault) => Err(GoalSearchFault::of(fault, goal)),
     }
 }
 

@@ -2,6 +2,7 @@
 use Rattle.std.proofs.Common.{◌≡◌, ℕ, zero, suc, ◌+◌, ◌-◌, ◌<◌, ◌≤◌, List, [], ◌∷◌, length, map, get_or, refl, sym, ap, subst, ◌∙◌, Some, None, Option, Bool, true, false, cond, arith}
 use Rattle.std.specs.Prelude.{Contains, MatchOption, All, nat_le, slice_get, Vec}
 use Rattle.std.specs.List.{filter_map, cons_option}
+use Rattle.std.specs.Option.{option_map}
 use Rattle.std.specs.declared.alloc.Global.{Global}
 use Rattle.std.proofs.lemmas.Bool.{leb-true, leb-false, le-leb}
 use Rattle.std.proofs.lemmas.List.Elements.{All-cons, All-nil, All-contains, Contains-get_or}
@@ -16,7 +17,7 @@ use Rattle.search_core.specs.Spaces.{Successors, actions_of, IsDoneWithin, IsRea
 use Rattle.search_core.specs.Tables.{HasRow, HasNeverRow, IsRefuted, IsRefutedBySteps, IsRefutedByMark, AreRefuted, AreCounted, unmarked, with_unmarked}
 use Rattle.search_core.specs.Answers.{IsBeyond}
 use Rattle.search_core.specs.Progress.{Entry, IsProgress, IsKept, IsCutOff, IsCut, IsHeldBy, kept_states, state_if_kept}
-use Rattle.search_core.specs.Visits.{IsWhole, IsAnswer, row_within, row_never}
+use Rattle.search_core.specs.Visits.{IsWhole, IsAnswer, row_within, row_never, row_for, bound_for}
 use Rattle.search_core.proofs.KeptLemmas.{kept_all, kept_distinct}
 use Rattle.search_core.proofs.NumberLemmas.{HasNumber, HasNoNumber}
 use Rattle.search_core.proofs.PlaceLemmas.{some_at}
@@ -34,6 +35,23 @@ row_is {S} {M} r e low = ap (λ b. cond b (Some (row_at r e)) None) (le-leb e.1.
 
 row_from : {S M : Type 0} (r : ℕ) (e : Entry S M) (row : KeptRow S M) → row_within r e ≡ Some row → (e.1.way.depth ≤ r) × (record { state = e.0; bound = Steps (r - e.1.way.depth); mark = e.1.mark } ≡ row)
 row_from r e row is = let both = cond_some (nat_le e.1.way.depth r) _ row is in (leb-true e.1.way.depth r both.0, both.1)
+
+-- the row of an entry is made of the bound that it has
+pub row_by_bound : {S M : Type 0} (most : Option ℕ) (e : Entry S M) (b : Option Bound) → b ≡ bound_for most e.1.way.depth → option_map (λ bound. record { state = e.0; bound = bound; mark = e.1.mark }) b ≡ row_for most e
+row_by_bound {S} {M} (Some r) e b is = ap (option_map with_bound) is ∙ by (nat_le e.1.way.depth r)
+  where
+    with_bound : Bound → KeptRow S M
+    with_bound bound = record { state = e.0; bound = bound; mark = e.1.mark }
+
+    by : (low : Bool) → option_map with_bound (cond low (Some (Steps (r - e.1.way.depth))) None) ≡ cond low (Some (with_bound (Steps (r - e.1.way.depth)))) None
+    by true = refl
+    by false = refl
+row_by_bound None e b is = ap (option_map (λ bound. record { state = e.0; bound = bound; mark = e.1.mark })) is
+
+-- for any number of steps each entry has a row
+rows_never : {S M : Type 0} (xs : List (Entry S M)) → filter_map (row_for None) xs ≡ map row_never xs
+rows_never [] = refl
+rows_never (x ∷ xs) = ap (λ rows. row_never x ∷ rows) (rows_never xs)
 
 map_all : {X Y : Type 0} (h : X → Y) (P : Y → Type 0) (xs : List X) → ((i : ℕ) (x : X) → slice_get xs i ≡ Some x → P (h x)) → All P (map h xs)
 map_all h P [] each = All-nil P
@@ -155,7 +173,7 @@ module _ {S M : Type 0} (next : Successors S) (is_done : S → Bool) (level : S 
         exceeds = omega (arith, reached.long, over);
       }
 
-  pub no_of : HasNumber xs → (made : Vec (KeptRow S M) Global) → made.items ≡ filter_map (row_within r) xs → IsAnswer next is_done level shows start r limit (answer.No made)
+  pub no_of : HasNumber xs → (made : Vec (KeptRow S M) Global) → made.items ≡ filter_map (row_for (Some r)) xs → IsAnswer next is_done level shows start r limit (answer.No made)
   unfolding rows
   no_of number made is =
       let first : (e : Entry S M) × (slice_get xs 0 ≡ Some e) = some_at xs 0 whole.some in
@@ -207,9 +225,10 @@ module _ {S M : Type 0} (next : Successors S) (is_done : S → Bool) (level : S 
     unfolding nevers
     nevers_reached = map_all row_never (λ (row : KeptRow S M). IsReachable next start row.state) xs reachable
 
-    pub never_of : (made : Vec (KeptRow S M) Global) → made.items ≡ map row_never xs → IsAnswer next is_done level shows start r limit (answer.Never made)
+    pub never_of : (made : Vec (KeptRow S M) Global) → made.items ≡ filter_map (row_for None) xs → IsAnswer next is_done level shows start r limit (answer.Never made)
     unfolding nevers
-    never_of made is =
+    never_of made are =
+        let is : made.items ≡ map row_never xs = are ∙ rows_never xs in
         let first : (e : Entry S M) × (slice_get xs 0 ≡ Some e) = some_at xs 0 whole.some in
         let at_start = (p.each 0 first.0 first.1).first refl in
         let start_row : HasNeverRow nevers start = has_never start first.0.1.way.depth (record { place = 0; entry = first.0; at = first.1; state_is = at_start.0; no_deeper = omega arith }) in

@@ -1,7 +1,7 @@
 -- What is known after a step is followed, after a state is expanded, and after all are.
-use Rattle.std.proofs.Common.{◌≡◌, ℕ, ◌+◌, ◌<◌, ◌≤◌, List, [], ◌∷◌, ◌++◌, length, refl, sym, ap, subst, ◌∙◌, inl, inr, Some, None, Option, Bool, true, false, arith}
-use Rattle.std.specs.Prelude.{Contains, slice_get}
-use Rattle.std.proofs.lemmas.Option.{slice_get_within, MatchOption-at_none, same_Some}
+use Rattle.std.proofs.Common.{◌≡◌, ℕ, zero, suc, ◌+◌, ◌<◌, ◌≤◌, List, [], ◌∷◌, ◌++◌, length, refl, sym, ap, subst, ◌∙◌, inl, inr, Some, None, Option, Result, Ok, Err, Bool, true, false, arith}
+use Rattle.std.specs.Prelude.{Contains, slice_get, IfOk, IfNone}
+use Rattle.std.proofs.lemmas.Option.{slice_get_within, MatchOption-at_none, same_Some, none-some}
 use Rattle.std.proofs.lemmas.List.Elements.{All-weaker, All-push}
 use Rattle.grd_base.specs.declared.ids.ActionId.{ActionId}
 use Rattle.grd_base.specs.declared.limits.Bound.{Bound}
@@ -9,7 +9,7 @@ use Rattle.search_core.specs.declared.found.Way.{Way}
 use Rattle.search_core.specs.Spaces.{Successors}
 use Rattle.search_core.specs.Answers.{IsDonePath}
 use Rattle.search_core.specs.Progress.{Entry, IsHeld, IsHeldBy, IsKept, IsCutOff, IsProgress, IsNew, IsAdded, IsGrown, AreLinked, HaveEarlierParents, IsWay, IsWayOn}
-use Rattle.search_core.specs.Visits.{IsHead, IsStepFrom, AreStepsFrom, IsStep, AreHeldBy, AreExpanded}
+use Rattle.search_core.specs.Visits.{IsHead, IsStepFrom, AreStepsFrom, IsStep, AreHeldBy, IsExploring}
 use Rattle.search_core.proofs.PlaceLemmas.{some_at, get_push_old, get_push_new, get_push_cases, get_grown, grown_none, grown_trans, below_cases}
 
 module _ {S M : Type 0} (next : Successors S) (is_done : S → Bool) (level : S → Option ℕ) (shows : S → M → Bound → Type 0) (start : S) (r limit kept : ℕ) (xs : List (Entry S M)) (p : IsProgress next is_done level shows start r limit kept xs) where
@@ -98,6 +98,12 @@ held_grown xs ys g s depth h = record { place = h.place; entry = h.entry; at = g
 all_held_grown : {S M : Type 0} (xs ys : List (Entry S M)) → IsGrown xs ys → (depth : ℕ) (steps : List (ActionId × S)) → AreHeldBy xs depth steps → AreHeldBy ys depth steps
 all_held_grown {S} {M} xs ys g depth steps h = All-weaker (λ (step : ActionId × S). IsHeldBy xs step.1 depth) (λ step. IsHeldBy ys step.1 depth) (λ step held. held_grown xs ys g step.1 depth held) steps h
 
+-- what holds where there is no value goes over to what follows from it
+none_weaker : {X E : Type 0} (result : Result (Option X) E) (P Q : Type 0) → (P → Q) → IfOk result (λ found. IfNone found P) → IfOk result (λ found. IfNone found Q)
+none_weaker (Ok None) P Q follows holds = follows holds
+none_weaker (Ok (Some x)) P Q follows holds = tt
+none_weaker (Err e) P Q follows holds = tt
+
 -- what the loop over the steps keeps
 pub record IsSpreading {S M : Type 0} (next : Successors S) (is_done : S → Bool) (level : S → Option ℕ) (shows : S → M → Bound → Type 0) (start : S) (r limit kept now : ℕ) (old new : List (Entry S M)) (place depth : ℕ) (done : List (ActionId × S)) : Type 0 where
   pub step : IsStep next is_done level shows start r limit kept now old new place depth
@@ -122,14 +128,33 @@ module _ {S M : Type 0} (next : Successors S) (is_done : S → Bool) (level : S 
     held = All-push (λ (s : ActionId × S). IsHeldBy new s.1 (depth + 1)) done step (all_held_grown mid new b.0.grown (depth + 1) done a.held) b.1;
   }
 
--- what the loop over the entries keeps: those below the place are expanded
-pub record IsExploring {S M : Type 0} (next : Successors S) (is_done : S → Bool) (level : S → Option ℕ) (shows : S → M → Bound → Type 0) (start : S) (r limit kept : ℕ) (entries : List (Entry S M)) (place : ℕ) : Type 0 where
-  pub progress : IsProgress next is_done level shows start r limit kept entries
-  pub some : 0 < length entries
-  pub expanded : AreExpanded next entries place
-  pub deepest : (e f : Entry S M) (i : ℕ) → slice_get entries place ≡ Some e → slice_get entries i ≡ Some f → f.1.way.depth ≤ e.1.way.depth + 1
+module _ {S M : Type 0} (next : Successors S) (is_done : S → Bool) (start : S) (r : ℕ) where
+  -- where nothing is found yet, the start may be added
+  pub new_first : (kept : ℕ) (xs : List (Entry S M)) (action : ActionId) → xs ≡ [] → is_done start ≡ false → IsNew next is_done start r kept xs start (record { depth = 0; parent = 0; action = action })
+  new_first kept [] action none open_start = record {
+    fresh = λ held. none-some held.entry held.at;
+    one_more = omega arith;
+    not_done = λ near. open_start;
+    earlier = omega arith;
+    deepest = λ i e got. absurd (none-some e got);
+    first = λ empty. (refl, refl);
+    later = λ above. absurd (omega (arith, above));
+  }
+  new_first kept (x ∷ xs) action none open_start = cc
 
 module _ {S M : Type 0} (next : Successors S) (is_done : S → Bool) (level : S → Option ℕ) (shows : S → M → Bound → Type 0) (start : S) (r limit : ℕ) where
+  -- nothing is found yet
+  pub progress_none : (kept : ℕ) (xs : List (Entry S M)) → xs ≡ [] → kept ≡ 0 → IsProgress next is_done level shows start r limit kept xs
+  progress_none zero [] none empty = record {
+    each = λ i e got. absurd (none-some e got);
+    sorted = λ i j e f below at_i at_j. absurd (none-some e at_i);
+    apart = λ i j e f at_i at_j same. absurd (none-some e at_i);
+    kept_is = refl;
+    few = omega arith;
+  }
+  progress_none (suc kept) [] none empty = cc
+  progress_none kept (x ∷ xs) none empty = cc
+
   pub head_of : (kept : ℕ) (xs : List (Entry S M)) (place : ℕ) (e : Entry S M) → IsExploring next is_done level shows start r limit kept xs place → slice_get xs place ≡ Some e → e.1.mark ≡ None → IsHead xs place e.1.way.depth
   head_of kept xs place e x got none = record { entry = e; at = got; depth_is = refl; kept = none; deepest = λ i f at_f. x.deepest e f i got at_f }
 
@@ -169,3 +194,12 @@ module _ {S M : Type 0} (next : Successors S) (is_done : S → Bool) (level : S 
         let up : e.1.way.depth ≤ f.1.way.depth = s.0.progress.sorted place (place + 1) e f (omega arith) (get_grown mid new s.0.grown place e got) at_f in
         let near : h.1.way.depth ≤ e.1.way.depth + 1 = s.0.head.deepest i h at_h in omega arith;
   }
+
+  -- so is what holds where a step ended no search
+  pub explore_next : {X E : Type 0} (kept now : ℕ) (mid new : List (Entry S M)) (place : ℕ) (e : Entry S M) (steps : List (ActionId × S)) (result : Result (Option X) E)
+      → IsExploring next is_done level shows start r limit kept mid place → slice_get mid place ≡ Some e → steps ≡ next e.0
+      → IfOk result (λ found. IfNone found (IsStep next is_done level shows start r limit kept now mid new place e.1.way.depth × AreHeldBy new (e.1.way.depth + 1) steps))
+      → IfOk result (λ found. IfNone found (IsExploring next is_done level shows start r limit now new (place + 1)))
+  explore_next kept now mid new place e steps result x got are =
+      none_weaker result (IsStep next is_done level shows start r limit kept now mid new place e.1.way.depth × AreHeldBy new (e.1.way.depth + 1) steps) (IsExploring next is_done level shows start r limit now new (place + 1))
+      (λ on. explore_kept kept now mid new place e x got (on.0, subst (AreHeldBy new (e.1.way.depth + 1)) are on.1))

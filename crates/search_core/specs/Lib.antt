@@ -1,3 +1,4 @@
+pub mod Promise
 pub mod Spaces
 pub mod Tables
 pub mod Answers

@@ -52,6 +52,13 @@ pub record IsWhole {S M : Type 0} (next : Successors S) (is_done : S → Bool) (
   pub some : 0 < length entries
   pub expanded : AreExpanded next entries (length entries)
 
+-- the entries below the place are expanded, and none is more than one deeper than the one there
+pub record IsExploring {S M : Type 0} (next : Successors S) (is_done : S → Bool) (level : S → Option ℕ) (shows : S → M → Bound → Type 0) (start : S) (r limit kept : ℕ) (entries : List (Entry S M)) (place : ℕ) : Type 0 where
+  pub progress : IsProgress next is_done level shows start r limit kept entries
+  pub some : 0 < length entries
+  pub expanded : AreExpanded next entries place
+  pub deepest : (e f : Entry S M) (i : ℕ) → slice_get entries place ≡ Some e → slice_get entries i ≡ Some f → f.1.way.depth ≤ e.1.way.depth + 1
+
 -- what an answer says, all together
 pub record IsAnswer {S M : Type 0} (next : Successors S) (is_done : S → Bool) (level : S → Option ℕ) (shows : S → M → Bound → Type 0) (start : S) (r limit : ℕ) (answer : WithinAnswer S M) : Type 0 where
   pub right : IsTrueAnswer next is_done start r limit answer
@@ -67,6 +74,9 @@ module _ {Sp Fl S M : Type 0} (next : Sp → Successors S) (is_done : Sp → S �
 
   abbrev pub GoesOn : Progress S M → Progress S M → Head → Type 0
   GoesOn old new head = IsStep (next question.space.now) (is_done question.space.now) (level question.space.now) (shows question.floor.now question.space.now) question.start question.r question.limit old.kept new.kept old.found.entries new.found.entries head.place head.depth
+
+  abbrev pub IsExploringAt : Progress S M → ℕ → Type 0
+  IsExploringAt progress place = IsExploring (next question.space.now) (is_done question.space.now) (level question.space.now) (shows question.floor.now question.space.now) question.start question.r question.limit progress.kept progress.found.entries place
 
   abbrev pub IsExplored : Progress S M → Type 0
   IsExplored progress = IsWhole (next question.space.now) (is_done question.space.now) (level question.space.now) (shows question.floor.now question.space.now) question.start question.r question.limit progress.kept progress.found.entries
@@ -94,6 +104,16 @@ row_within r entry = if nat_le entry.1.way.depth r then Some (record { state = e
 -- the row of an entry, at Never
 abbrev pub row_never : {S M : Type 0} → Entry S M → KeptRow S M
 row_never entry = record { state = entry.0; bound = Never; mark = entry.1.mark }
+
+-- the row of an entry for at most so many steps, or for any number of them
+abbrev pub row_for : {S M : Type 0} → Option ℕ → Entry S M → Option (KeptRow S M)
+row_for (Some r) entry = row_within r entry
+row_for None entry = Some (row_never entry)
+
+-- the bound of such a row, of an entry so deep
+abbrev pub bound_for : Option ℕ → ℕ → Option Bound
+bound_for (Some r) depth = if nat_le depth r then Some (Steps (r - depth)) else None
+bound_for None depth = Some Never
 
 -- whether a mark shows a number
 abbrev pub is_number : {M : Type 0} → Bound → Option M → Bool

@@ -1,16 +1,16 @@
-ghost use Rattle.std.specs.Prelude.{◌≡◌, map, IfOk};
+ghost use Rattle.std.specs.Prelude.{◌≡◌, IfOk};
 ghost use Rattle.std.specs.List.{filter_map, list_any};
 ghost use Rattle.search_core.specs.Answers.{IsTrueAnswer, HasStartRow, HasReason, rows_of};
 ghost use Rattle.grd_base.specs.Counts.{MoreThan};
 ghost use Rattle.search_core.specs.Spaces.{Counts};
 ghost use Rattle.search_core.specs.Tables.{AreRefuted, AreCounted};
-ghost use Rattle.search_core.specs.Visits.{IsExplored, IsAnswered, AreTooMany, row_within, row_never, is_number, has_number_mark};
+ghost use Rattle.search_core.specs.Visits.{IsExplored, IsAnswered, AreTooMany, bound_for, row_for, is_number, has_number_mark};
 
 use crate::faults::SearchFault;
 use crate::found::{Found, Progress};
 use crate::rows::{KeptRow, WithinAnswer};
 use crate::space::{Floor, Space};
-use crate::visits::{Question, begin, explore};
+use crate::visits::{Question, search};
 use grd_base::{Bound, OutOfMemory};
 use indexmap::IndexMap;
 use std::alloc::Global;
@@ -33,60 +33,44 @@ fn some_number<T: Eq + Hash, M>(found: &IndexMap<T, Found<M>>) -> bool
     found.iter().any(|(_, found)| shows_number(found))
 }
 
-/// The row for r steps, of a state at most r deep.
-fn row_at<T: Copy, M: Drop>(entry: (T, Found<M>), r: u32) -> Option<KeptRow<T, M>>
-    ensures { result ≡ row_within r entry }
+/// How many steps are left of `most` at this depth, if that many are; `Never` where `most` is none.
+fn bound_for(depth: u32, most: Option<u32>) -> Option<Bound>
+    ensures { result ≡ bound_for most depth }
+{
+    match most {
+        Some(r) if depth > r => None,
+        Some(r) => Some(Bound::Steps(r - depth)),
+        None => Some(Bound::Never),
+    }
+}
+
+/// The row of a state for at most `most` steps, where it is at most so deep; for any number of steps where
+/// `most` is none.
+fn row_for<T: Copy, M: Drop>(entry: (T, Found<M>), most: Option<u32>) -> Option<KeptRow<T, M>>
+    ensures { result ≡ row_for most entry }
 {
     let (state, found) = entry;
-    if found.way.depth > r {
-        return None;
-    }
+    let bound = bound_for(found.way.depth, most)?;
     Some(KeptRow {
         state,
-        bound: Bound::Steps(r - found.way.depth),
+        bound,
         mark: found.mark,
     })
 }
 
-/// The rows for r steps.
-fn rows_within<T: Copy + Eq + Hash, M: Drop>(
+/// The rows for at most `most` steps, or for any number of steps.
+fn rows_for<T: Copy + Eq + Hash, M: Drop>(
     alloc: Global,
     found: IndexMap<T, Found<M>>,
-    r: u32,
+    most: Option<u32>,
 ) -> Result<Vec<KeptRow<T, M>>, OutOfMemory>
-    ensures { IfOk result (λ rows. rows.items ≡ filter_map (row_within r) found.entries) }
+    ensures { IfOk result (λ rows. rows.items ≡ filter_map (row_for most) found.entries) }
 {
     let mut rows = Vec::with_capacity(alloc, found.len())?;
     for entry in found {
-        if let Some(row) = row_at(entry, r) {
+        if let Some(row) = row_for(entry, most) {
             rows.push(row)?;
         }
-    }
-    Ok(rows)
-}
-
-/// The row of a state for any number of steps.
-fn never_row<T: Copy, M: Drop>(entry: (T, Found<M>)) -> KeptRow<T, M>
-    ensures { result ≡ row_never entry }
-{
-    let (state, found) = entry;
-    KeptRow {
-        state,
-        bound: Bound::Never,
-        mark: found.mark,
-    }
-}
-
-/// The rows for any number of steps.
-fn rows_never<T: Copy + Eq + Hash, M: Drop>(
-    alloc: Global,
-    found: IndexMap<T, Found<M>>,
-) -> Result<Vec<KeptRow<T, M>>, OutOfMemory>
-    ensures { IfOk result (λ rows. rows.items ≡ map row_never found.entries) }
-{
-    let mut rows = Vec::with_capacity(alloc, found.len())?;
-    for entry in found {
-        rows.push(never_row(entry))?;
     }
     Ok(rows)
 }
@@ -101,10 +85,10 @@ fn refute<S: Space, F: Floor<S>>(
     ensures { IfOk result (IsAnswered S.next S.is_done S.level F.shows question.now) }
 {
     if some_number(&progress.found) {
-        let rows = rows_within(alloc, progress.found, question.r)?;
+        let rows = rows_for(alloc, progress.found, Some(question.r))?;
         return Ok(WithinAnswer::No(rows));
     }
-    let rows = rows_never(alloc, progress.found)?;
+    let rows = rows_for(alloc, progress.found, None)?;
     Ok(WithinAnswer::Never(rows))
 }
 
@@ -119,8 +103,11 @@ fn answer<S: Space, F: Floor<S>>(
     if question.space.done(&question.start) {
         return Ok(WithinAnswer::Yes(Vec::new(alloc)));
     }
-    let mut progress = begin(alloc, question)?;
-    if let Some(path) = explore(alloc, question, &mut progress)? {
+    let mut progress = Progress {
+        found: IndexMap::new(alloc),
+        kept: 0,
+    };
+    if let Some(path) = search(alloc, question, &mut progress)? {
         return Ok(WithinAnswer::Yes(path));
     }
     let answer = refute(alloc, question, progress)?;

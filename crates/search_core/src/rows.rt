@@ -5,7 +5,8 @@ use grd_base::{ActionId, Bound};
 #[derive(Drop)]
 pub struct KeptRow<T, M> {
     pub state: T,
-    /// No path of at most this many steps leads to a done state; at `Never` no path does.
+    /// At `Steps(n)` more than n steps lead to a done state, one more than a floor's `Steps(n)` says: no path
+    /// of at most n does. At `Never` no path does.
     pub bound: Bound,
     /// What shows a bound above the row's, or `Never` for `Never`.
     pub mark: Option<M>,

@@ -54,8 +54,8 @@ pub trait Floor<S: Space> {
     // That a `Why` proves a bound for a state.
     ghost proves: { Self → S → S.State → Self.Why → Bound → Type 0 };
 
-    /// A bound for the state, with a mark that shows it. Two calls for one state may answer
-    /// different bounds.
+    /// A bound for the state, with a mark that shows it: at `Steps(n)` at least n steps lead to a done
+    /// state, at `Never` none do. Two calls for one state may answer different bounds.
     fn at_least(
         &self,
         alloc: Global,

@@ -1,12 +1,11 @@
-ghost use Rattle.std.specs.Prelude.{◌≡◌, false, ◌+◌, ◌≤◌, ◌↔◌, length, IsTrue, IfOk, OnOk, IfSome, IfNone};
+ghost use Rattle.std.specs.Prelude.{◌≡◌, false, ◌+◌, ◌<◌, ◌≤◌, ◌↔◌, [], length, IsTrue, IfOk, OnOk, IfSome, IfNone};
 ghost use Rattle.search_core.specs.Progress.{IsCut, IsAdded, IsHeldBy};
-ghost use Rattle.search_core.specs.Visits.{IsUnderWay, MayAdd, AreTooMany, IsHead, IsStepFrom, AreStepsFrom, AreHeldBy, GoesOn, IsAskedPath, IsExplored};
+ghost use Rattle.search_core.specs.Visits.{IsUnderWay, MayAdd, AreTooMany, IsHead, IsStepFrom, AreStepsFrom, AreHeldBy, GoesOn, IsAskedPath, IsExploringAt, IsExplored};
 
 use crate::faults::SearchFault;
 use crate::found::{Found, Progress, Way, add, is_found, path_through};
 use crate::space::{Floor, Space};
 use grd_base::{ActionId, Bound};
-use indexmap::IndexMap;
 use std::alloc::Global;
 
 /// What is asked: a path of at most `r` steps from the start to a done state.
@@ -122,29 +121,56 @@ fn expand<S: Space, F: Floor<S>>(
     question: &Question<S, F, S::State>,
     progress: &mut Progress<S::State, F::Mark>,
     head: Head,
-    steps: Vec<(ActionId, S::State)>,
+    steps: &[(ActionId, S::State)],
 ) -> Result<Option<Vec<ActionId>>, SearchFault>
     requires progress { IsUnderWay S.next S.is_done S.level F.shows question.now progress.old }
     requires head { IsHead progress.old.found.entries head.place head.depth }
     requires steps { AreStepsFrom (S.next question.now.space.now)
-        progress.old.found.entries head.place steps.items }
+        progress.old.found.entries head.place steps.now }
     ensures path { IfOk result (λ found. IfSome found
         (λ path. IsAskedPath S.next S.is_done question.now path.items)) }
     ensures on { IfOk result (λ found. IfNone found
         (GoesOn S.next S.is_done S.level F.shows question.now progress.old progress.new head
-        × AreHeldBy progress.new.found.entries (head.depth + 1) steps.items)) }
+        × AreHeldBy progress.new.found.entries (head.depth + 1) steps.now)) }
     ensures many { result ≡ Err SearchFault.TooManyStates → AreTooMany S.next S.level question.now }
 {
     for step in steps {
-        if let Some(path) = visit(alloc, question, progress, head, step)? {
+        if let Some(path) = visit(alloc, question, progress, head, *step)? {
             return Ok(Some(path));
         }
     }
     Ok(None)
 }
 
+/// Expands the found state at a place, unless it has a mark.
+fn expand_at<S: Space, F: Floor<S>>(
+    alloc: Global,
+    question: &Question<S, F, S::State>,
+    progress: &mut Progress<S::State, F::Mark>,
+    place: usize,
+) -> Result<Option<Vec<ActionId>>, SearchFault>
+    requires place { place < length progress.old.found.entries }
+    requires exploring { IsExploringAt S.next S.is_done S.level F.shows question.now progress.old place }
+    ensures path { IfOk result (λ found. IfSome found
+        (λ path. IsAskedPath S.next S.is_done question.now path.items)) }
+    ensures on { IfOk result (λ found. IfNone found
+        (IsExploringAt S.next S.is_done S.level F.shows question.now progress.new (place + 1))) }
+    ensures many { result ≡ Err SearchFault.TooManyStates → AreTooMany S.next S.level question.now }
+{
+    let (state, found) = progress.found.get_index(place).unwrap();
+    if found.mark.is_some() {
+        return Ok(None);
+    }
+    let head = Head {
+        place,
+        depth: found.way.depth,
+    };
+    let steps = question.space.successors(alloc, state)?;
+    expand(alloc, question, progress, head, steps.as_slice())
+}
+
 /// Expands the found states in their order, up to one with a step that ends the search.
-pub(crate) fn explore<S: Space, F: Floor<S>>(
+fn explore<S: Space, F: Floor<S>>(
     alloc: Global,
     question: &Question<S, F, S::State>,
     progress: &mut Progress<S::State, F::Mark>,
@@ -159,43 +185,34 @@ pub(crate) fn explore<S: Space, F: Floor<S>>(
 {
     let mut place = 0;
     while place < progress.found.len() {
-        let (state, found) = progress.found.get_index(place).unwrap();
-        if found.mark.is_none() {
-            let head = Head {
-                place,
-                depth: found.way.depth,
-            };
-            let steps = question.space.successors(alloc, state)?;
-            if let Some(path) = expand(alloc, question, progress, head, steps)? {
-                return Ok(Some(path));
-            }
+        if let Some(path) = expand_at(alloc, question, progress, place)? {
+            return Ok(Some(path));
         }
         place += 1;
     }
     Ok(None)
 }
 
-/// Finds the start.
-pub(crate) fn begin<S: Space, F: Floor<S>>(
+/// Finds the start, and explores from there.
+pub(crate) fn search<S: Space, F: Floor<S>>(
     alloc: Global,
     question: &Question<S, F, S::State>,
-) -> Result<Progress<S::State, F::Mark>, SearchFault>
-    requires { S.is_done question.now.space.now question.now.start ≡ false }
-    ensures progress { IfOk result
-        (IsUnderWay S.next S.is_done S.level F.shows question.now) }
-    ensures start { IfOk result (λ progress. length progress.found.entries ≡ 1) }
+    progress: &mut Progress<S::State, F::Mark>,
+) -> Result<Option<Vec<ActionId>>, SearchFault>
+    requires open { S.is_done question.now.space.now question.now.start ≡ false }
+    requires fresh { (progress.old.found.entries ≡ []) × (progress.old.kept ≡ 0) }
+    ensures path { IfOk result (λ found. IfSome found
+        (λ path. IsAskedPath S.next S.is_done question.now path.items)) }
+    ensures whole { IfOk result (λ found. IfNone found
+        (IsExplored S.next S.is_done S.level F.shows question.now progress.new)) }
     ensures many { result ≡ Err SearchFault.TooManyStates → AreTooMany S.next S.level question.now }
 {
-    let mut progress = Progress {
-        found: IndexMap::new(alloc),
-        kept: 0,
-    };
     // No step led to the start.
     let unread = Way {
         depth: 0,
         parent: 0,
         action: ActionId(0),
     };
-    admit(alloc, question, &mut progress, question.start, unread)?;
-    Ok(progress)
+    admit(alloc, question, progress, question.start, unread)?;
+    explore(alloc, question, progress)
 }

@@ -5,7 +5,8 @@ use Rattle.grd_base.specs.declared.ids.GoalId.{GoalId}
 use Rattle.cost_certificate.specs.declared.found.Verdict.{Verdict}
 use Rattle.cost_certificate.specs.Found.{PlainCost}
 use Rattle.cost_certificate.specs.Verdicts.{plain_verdict, IsRightVerdict}
-use Rattle.recognise.proofs.VerdictLemmas.{passed_on, none_right, cost_at, right_push}
+use Rattle.optimal_search.proofs.AskLaws.{passed_on}
+use Rattle.recognise.proofs.VerdictLemmas.{none_right, cost_at, right_push}
 use Rattle.recognise.proofs.verdicts.all_verdicts.Goals as goal
 use Rattle.recognise.proofs.verdicts.all_verdicts.Goals.{in-Some+in_ok-verdict-in-Some, in-None}
 

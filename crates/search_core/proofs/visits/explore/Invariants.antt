@@ -1,5 +1,5 @@
 use Rattle.std.proofs.Common.{◌-◌, ◌^◌}
-use Rattle.search_core.proofs.VisitLemmas.{IsExploring}
+use Rattle.search_core.specs.Visits.{IsExploring}
 use Rattle.search_core.proofs.visits.explore.Given as goal
 
 abbrev pub invariant-loop-place : goal.invariant-loop-place
