@@ -1,3 +1,4 @@
+pub mod Promise
 pub mod Pieces
 pub mod Tokens
 pub mod Brackets

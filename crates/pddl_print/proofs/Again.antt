@@ -17,8 +17,8 @@ use Rattle.pddl_reader.specs.Spelling.{document_word, IsDocument, IsDomain, IsPr
 use Rattle.pddl_reader.proofs.OnceLaws.{AllPairs-none}
 use Rattle.pddl_print.specs.Layouts.{unplaced_form}
 use Rattle.pddl_print.specs.CanonicalForms.{word, name_form, type_form, typed_forms, literal_form, condition_form, predicate_form, action_form, section_forms, domain_form, problem_form}
-use Rattle.pddl_print.proofs.NamesOfValues.{SoundTyped, SoundLiteral, SoundSchema, SoundPredicate, SoundDomain, SoundProblem}
-use Rattle.pddl_print.proofs.NamesOf.{domain_sound, problem_sound, Anything, any_words}
+use Rattle.pddl_reader.proofs.NamesOfValues.{SoundTyped, SoundLiteral, SoundSchema, SoundPredicate, SoundDomain, SoundProblem}
+use Rattle.pddl_reader.proofs.NamesOf.{domain_sound, problem_sound, Anything, any_words}
 use Rattle.pddl_print.proofs.AgainForms.{group_again, word_first, form_first, group_first, none_again, both_again, each_again, pairs_both, pairs_map}
 use Rattle.pddl_print.proofs.AgainValues.{same_name, typed_again, start_again}
 use Rattle.pddl_print.proofs.AgainSections.{accepted_again, predicate_again, action_again, section_of, SectionAgain, no_section, some_section, section_gives, section_skips, section_all, section_once, section_any, actions_all, actions_skip, Apart, actions_once}

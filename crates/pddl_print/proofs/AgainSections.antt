@@ -14,7 +14,7 @@ use Rattle.pddl_reader.specs.Sections.{Pairwise, PartValue, HasParameters, HasPr
 use Rattle.pddl_reader.proofs.OnceLaws.{AllPairs-none}
 use Rattle.pddl_print.specs.Layouts.{unplaced_form}
 use Rattle.pddl_print.specs.CanonicalForms.{word, name_form, typed_forms, condition_form, predicate_form, action_form, section_forms}
-use Rattle.pddl_print.proofs.NamesOfValues.{SoundSchema, SoundPredicate}
+use Rattle.pddl_reader.proofs.NamesOfValues.{SoundSchema, SoundPredicate}
 use Rattle.pddl_print.proofs.AgainForms.{group_again, word_first, form_first, group_first, none_again}
 use Rattle.pddl_print.proofs.AgainValues.{same_name, typed_again, condition_again}
 

@@ -16,7 +16,7 @@ use Rattle.pddl_reader.specs.Conditions.{IsTerm, AreTerms, IsAtom, IsLiteral, Is
 use Rattle.pddl_reader.specs.Sections.{Pairwise}
 use Rattle.pddl_print.specs.Layouts.{unplaced_form}
 use Rattle.pddl_print.specs.CanonicalForms.{word, name_form, type_form, typed_forms, term_form, atom_form, literal_form, condition_form}
-use Rattle.pddl_print.proofs.NamesOfValues.{SoundTypes, SoundTyped, SoundTerm, SoundLiteral}
+use Rattle.pddl_reader.proofs.NamesOfValues.{SoundTypes, SoundTyped, SoundTerm, SoundLiteral}
 use Rattle.pddl_print.proofs.AgainForms.{leaf_again, group_again, word_first, form_first, none_again, each_again}
 
 pub same_word : (w v : Word) → w.text ≡ v.text → unplaced w ≡ unplaced v

@@ -5,7 +5,8 @@ use Rattle.std.proofs.lemmas.List.Elements.{All-nil}
 use Rattle.pddl_reader.specs.Forms.{Word, Form, group}
 use Rattle.pddl_reader.specs.Values.{PlainDomain, PlainProblem}
 use Rattle.pddl_print.specs.Canonical.{spaced, name_text, typed_text, literal_text, predicate_text, action_text, section_text, domain_text, problem_text}
-use Rattle.pddl_print.specs.CanonicalForms.{word, name_form, typed_forms, literal_form, condition_form, predicate_form, action_form, section_forms, domain_form, problem_form, AllLiteral, AllDomain, AllProblem}
+use Rattle.pddl_reader.specs.Words.{AllLiteral, AllDomain, AllProblem}
+use Rattle.pddl_print.specs.CanonicalForms.{word, name_form, typed_forms, literal_form, condition_form, predicate_form, action_form, section_forms, domain_form, problem_form}
 use Rattle.pddl_print.specs.CanonicalParts.{written, typed_parts, literal_parts, predicate_parts, named_parts, sections_parts, requirements_parts, domain_parts, init_parts, goal_parts, problem_parts}
 use Rattle.pddl_print.specs.Layouts.{Parts, Last, parts_bytes, parts_forms, parts_depth, IsWritable, AreLaid}
 use Rattle.pddl_print.proofs.CanonicalPuts.{NoWordFirst, Puts, keyword, puts_word, puts_blank, puts_brackets, puts_bracket_line, puts_both, puts_within, spaced_apart}

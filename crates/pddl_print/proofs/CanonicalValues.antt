@@ -8,7 +8,8 @@ use Rattle.pddl_reader.specs.Forms.{Word, group}
 use Rattle.pddl_reader.specs.Values.{PlainTypedName, PlainTerm, PlainLiteral, PlainSchema, PlainPredicate}
 use Rattle.pddl_reader.specs.Values.PlainTerm.{Variable, Constant}
 use Rattle.pddl_print.specs.Canonical.{spaced, separated, name_text, type_text, typed_text, term_text, atom_text, literal_text, condition_text, predicate_text, action_text, section_text}
-use Rattle.pddl_print.specs.CanonicalForms.{word, name_form, type_form, typed_forms, term_form, atom_form, literal_form, condition_form, predicate_form, action_form, section_forms, AllTyped, AllTerm, AllLiteral, AllSchema, AllPredicate}
+use Rattle.pddl_reader.specs.Words.{AllTyped, AllTerm, AllLiteral, AllSchema, AllPredicate}
+use Rattle.pddl_print.specs.CanonicalForms.{word, name_form, type_form, typed_forms, term_form, atom_form, literal_form, condition_form, predicate_form, action_form, section_forms}
 use Rattle.pddl_print.specs.CanonicalParts.{written, bracketed, space, each_parts, spaced_parts, name_parts, type_parts, typed_parts, term_parts, atom_parts, literal_parts, condition_parts, predicate_parts, schema_parts, action_parts, section_parts}
 use Rattle.pddl_print.specs.Layouts.{Parts, Last, IsWritable}
 use Rattle.pddl_print.proofs.CanonicalPuts.{Puts, BeginsApart, keyword, puts_word, puts_blank, puts_brackets, puts_bracket_line, puts_both, puts_nothing, puts_text, puts_forms, puts_within, puts_each, puts_spaced, spaced_apart, puts_separated, puts_line}

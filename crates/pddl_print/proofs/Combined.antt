@@ -14,7 +14,7 @@ use Rattle.pddl_print.proofs.CanonicalPuts.{keyword}
 use Rattle.pddl_print.proofs.Again.{domain_again, problem_again}
 use Rattle.pddl_print.proofs.LayoutForms.{layout}
 use Rattle.pddl_print.proofs.LayoutWords.{words_of_text}
-use Rattle.pddl_print.proofs.NamesOf.{names_of_domain, names_of_problem}
+use Rattle.pddl_reader.proofs.NamesOf.{names_of_domain, names_of_problem}
 use Rattle.pddl_print.proofs.OneDomain.{one_domain, one_problem}
 
 -- the word of a type that is not written

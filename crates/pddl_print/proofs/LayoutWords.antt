@@ -20,7 +20,8 @@ use Rattle.pddl_lexer.specs.Trees.{Mark, Opened, Closed, Worded, mark_by_kind, m
 use Rattle.pddl_reader.specs.Forms.{Form, group, forms_of, form_of_item, form_of_list, form_at, form_of}
 use Rattle.pddl_reader.specs.Items.{forms_at}
 use Rattle.pddl_reader.specs.Spelling.{IsFormOf}
-use Rattle.pddl_print.specs.Layouts.{IsWritable, AllWords, AllWordsOf}
+use Rattle.pddl_reader.specs.Words.{AllWords, AllWordsOf}
+use Rattle.pddl_print.specs.Layouts.{IsWritable}
 use Rattle.pddl_print.proofs.LayoutItems.{word_between}
 
 -- a word that is folded to lower case

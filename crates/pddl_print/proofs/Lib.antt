@@ -9,9 +9,6 @@ pub mod LayoutPieces
 pub mod LayoutItems
 pub mod LayoutForms
 pub mod LayoutWords
-pub mod NamesOfValues
-pub mod NamesOfForms
-pub mod NamesOf
 pub mod AgainForms
 pub mod AgainValues
 pub mod AgainSections

@@ -80,13 +80,3 @@ abbrev mutual
   pub unplaced_forms : Forms → Forms
   unplaced_forms End = End
   unplaced_forms (Then f forms) = Then (unplaced_form f) (unplaced_forms forms)
-
--- every word of the form has the property
-abbrev mutual
-  pub AllWords : (List ℕ → Type 0) → Form → Type 0
-  AllWords P (Leaf w) = P w.text
-  AllWords P (Group at forms) = AllWordsOf P forms
-
-  pub AllWordsOf : (List ℕ → Type 0) → Forms → Type 0
-  AllWordsOf P End = Unit {0}
-  AllWordsOf P (Then f forms) = AllWords P f × AllWordsOf P forms

@@ -1,3 +1,4 @@
+pub mod Promise
 pub mod Canonical
 pub mod Spells
 pub mod Layouts

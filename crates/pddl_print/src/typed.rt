@@ -40,7 +40,7 @@ fn put_typed(out: &mut Vec<u8>, name: &TypedName) -> Result<(), AllocError>
 {
     put_name(out, &name.name)?;
     out.extend_from_slice(b" - ")?;
-    put_type(out, &name.types)
+    put_type(out, name.types.as_slice())
 }
 
 /// Writes names with their types, each behind a space.

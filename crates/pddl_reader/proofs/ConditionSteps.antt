@@ -6,11 +6,11 @@ use Rattle.pddl_lexer.specs.declared.token.Token.{Token}
 use Rattle.pddl_lexer.specs.declared.trees.Item.{Item}
 use Rattle.pddl_lexer.specs.declared.trees.TreeList.{TreeList}
 use Rattle.pddl_lexer.specs.declared.trees.Item.TheVariants.{List as ListItem, Word as WordItem}
-use Rattle.pddl_reader.specs.Forms.{Leaf, forms_in, forms_of, group, word_of, form_at, place_of}
+use Rattle.pddl_reader.specs.Forms.{Form, Leaf, forms_in, forms_of, group, word_of, form_at, place_of}
 use Rattle.pddl_reader.specs.Items.{forms_at}
 use Rattle.pddl_reader.specs.Values.{PlainLiteral}
 use Rattle.pddl_reader.specs.Steps.{behind}
-use Rattle.pddl_reader.specs.Reading.{Read, and_then, atom_at, negation_in, literal_in, condition_at, conditions_at}
+use Rattle.pddl_reader.specs.Reading.{Read, and_then, atom_at, negative_of, negation_in, literal_in, condition_at, conditions_at}
 use Rattle.pddl_reader.specs.declared.kinds.Part.{Part}
 use Rattle.pddl_reader.specs.declared.faults.PddlFault.{PddlFault}
 use Rattle.pddl_reader.specs.declared.faults.PddlFault.TheVariants.{Shape}
@@ -55,6 +55,11 @@ module _ (part : Part) (text : List ℕ) (items : List Item) (i : ℕ) (item : I
   next_condition_fault found fault e =
       ap (λ more. behind found (conditions_at part (forms_of (forms_at text more)))) (drop-next items i item within is)
       ∙ ap (λ r. behind found (and_then r (λ ls. and_then (conditions_at part (forms_of (forms_at text (drop (i + 1) items)))) (λ more. Ok (ls ++ more))))) e
+
+-- the atom behind 'not' is at fault
+pub negation_fault : (at : ℕ) (f : Form) (forms : List Form) (fault : PddlFault) → atom_at Effect f ≡ Err fault → negation_in at (f ∷ forms) ≡ Err fault
+negation_fault at f [] fault e = ap (λ r. and_then r (λ l. Ok (negative_of l))) e
+negation_fault at f (g ∷ forms) fault e = ap (λ r. and_then {B = PlainLiteral} r (λ l. Err (Shape (place_of g)))) e
 
 -- a second item behind 'not'
 pub second_item : (text : List ℕ) (at : ℕ) (items : List Item) (first : Item) (rest : List Item) (second : Item) → items ≡ first ∷ rest → Some second ≡ slice_get rest 0 → (l : PlainLiteral) → atom_at Effect (form_at text first) ≡ Ok l

@@ -26,3 +26,6 @@ pub mod TextLemmas
 pub mod FailLaws
 pub mod DocumentFails
 pub mod TextFaults
+pub mod NamesOfValues
+pub mod NamesOfForms
+pub mod NamesOf

@@ -1,9 +1,10 @@
 -- The parts of an action, one behind the other.
-use Rattle.std.proofs.Common.{◌≡◌, ℕ, false, List, [], ◌∷◌, ◌++◌, map, Ok, refl, sym, ap, ◌∙◌}
+use Rattle.std.proofs.Common.{◌≡◌, ℕ, false, List, [], ◌∷◌, ◌++◌, map, Ok, Err, refl, sym, ap, ◌∙◌, append-nil}
 use Rattle.std.specs.List.{flat_map, list_any}
 use Rattle.std.proofs.lemmas.Bool.{false≢true}
 use Rattle.std.proofs.lemmas.List.{map-append}
 use Rattle.pddl_reader.specs.declared.actions.Parts.{Parts}
+use Rattle.pddl_reader.specs.declared.faults.PddlFault.{PddlFault}
 use Rattle.pddl_reader.specs.declared.kinds.ActionPart.{ActionPart}
 use Rattle.pddl_reader.specs.declared.kinds.ActionPart.TheVariants.{Parameters, Precondition, Effect}
 use Rattle.pddl_reader.specs.Forms.{Word, Form, Leaf}
@@ -120,3 +121,9 @@ one_more_read at forms before rest old new h takes =
       keeps = taken.1;
       same = h.same ∙ ap (behind h.seen) taken.2 ∙ behind-push h.seen v (parts_from at (map part_of (h.seen ++ v ∷ [])) rest);
     }
+
+pub parts_fault : (at : ℕ) (forms rest : List Form) (p : Parts) (fault : PddlFault) → ReadsParts at forms p rest → parts_from at p.given.items rest ≡ Err fault → parts_from at [] forms ≡ Err fault
+parts_fault at forms rest p fault h e = h.same ∙ ap (λ kinds. behind h.seen (parts_from at kinds rest)) (sym h.keeps.given) ∙ ap (behind h.seen) e
+
+pub parts_end : (at : ℕ) (forms : List Form) (p : Parts) → ReadsParts at forms p [] → (seen : List PartValue) × (parts_from at [] forms ≡ Ok seen) × KeepsParts seen p
+parts_end at forms p h = (h.seen, h.same ∙ ap Ok (append-nil h.seen), h.keeps)

@@ -1,5 +1,5 @@
 -- Sections, one behind the other, and the documents of them.
-use Rattle.std.proofs.Common.{◌≡◌, ℕ, false, cond, List, [], ◌∷◌, ◌++◌, map, Option, Some, None, Ok, Err, refl, sym, ap, ◌∙◌}
+use Rattle.std.proofs.Common.{◌≡◌, ℕ, false, cond, List, [], ◌∷◌, ◌++◌, map, Option, Some, None, Ok, Err, refl, sym, ap, ◌∙◌, append-nil}
 use Rattle.std.proofs.lemmas.List.{map-append}
 use Rattle.pddl_reader.specs.declared.document.Sections.{Sections}
 use Rattle.pddl_reader.specs.declared.faults.Feature.{Feature}
@@ -95,3 +95,7 @@ section_fault document forms rest f old fault h read =
     let kinds = map kind_of h.seen in
     let here = sym (section_at_same document old.given.items kinds f h.keeps.given) ∙ read in
     h.same ∙ ap (λ r. behind h.seen (and_then r (λ t. and_then (sections_from document (kinds ++ kind_of t ∷ []) rest) (λ more. Ok (t ∷ more))))) here
+
+pub sections_end : (document : Document) (forms : List Form) (s : Sections) → ReadsSections document forms s []
+    → (seen : List SectionValue) × (sections_from document [] forms ≡ Ok seen) × KeepsValues seen s.values
+sections_end document forms s h = (h.seen, h.same ∙ ap Ok (append-nil h.seen), h.keeps.values)

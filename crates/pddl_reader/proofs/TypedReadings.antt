@@ -2,11 +2,12 @@
 use Rattle.std.proofs.Common.{◌≡◌, ℕ, ◌<◌, Bool, true, false, List, [], ◌∷◌, ◌++◌, length, codes, Ok, Err, inl, inr, refl, sym, ap, ◌∙◌, arith}
 use Rattle.std.specs.Str.{bytes_eq}
 use Rattle.pddl_reader.specs.Forms.{Word, Form, Leaf, group}
-use Rattle.pddl_reader.specs.Items.{IsFaultOf}
+use Rattle.pddl_lexer.specs.declared.trees.Item.{Item}
+use Rattle.pddl_reader.specs.Items.{forms_at, IsFaultOf}
 use Rattle.pddl_reader.specs.Values.{PlainTypedName}
 use Rattle.pddl_reader.specs.Classes.{is_element}
 use Rattle.pddl_reader.specs.Typed.{typed_by}
-use Rattle.pddl_reader.specs.Reading.{and_then, either_at, type_at, is_some_dash, typed_from}
+use Rattle.pddl_reader.specs.Reading.{and_then, each_at, name_at, some_names, either_at, type_at, is_some_dash, typed_from}
 use Rattle.pddl_reader.specs.Steps.{behind}
 use Rattle.pddl_reader.specs.TypedSteps.{typed_rest, typed_behind, Refuses}
 use Rattle.pddl_reader.specs.declared.faults.PddlFault.{PddlFault}
@@ -19,6 +20,21 @@ use Rattle.pddl_reader.proofs.ReadLemmas.{behind-append}
 
 pub either_type : (listed : Listed) (at : ℕ) (forms : List Form) → listed ≡ Variables → type_at listed (group at forms) ≡ either_at at forms
 either_type listed at forms is = ap (λ l. type_at l (group at forms)) is ∙ ap (either_at at) (forms_in-of forms)
+
+-- what stands behind another head than 'either', behind 'either', and behind it where nothing or something does
+pub other_head : (at : ℕ) (w : Word) (forms : List Form) → bytes_eq (codes "either") w.text ≡ false → either_at at (Leaf w ∷ forms) ≡ Err (Shape w.at)
+other_head at w forms e = rw e refl
+
+pub either_head : (at : ℕ) (w : Word) (forms : List Form) → bytes_eq (codes "either") w.text ≡ true → either_at at (Leaf w ∷ forms) ≡ some_names at forms
+either_head at w forms e = rw e refl
+
+pub no_names : (at : ℕ) (text : List ℕ) (items : List Item) → length items ≡ 0 → some_names at (forms_at text items) ≡ Err (Shape at)
+no_names at text [] none = refl
+no_names at text (item ∷ items) none = absurd (omega arith)
+
+pub more_names : (at : ℕ) (text : List ℕ) (items : List Item) → 0 < length items → some_names at (forms_at text items) ≡ each_at name_at (forms_at text items)
+more_names at text [] some = absurd (omega arith)
+more_names at text (item ∷ items) some = refl
 
 module _ (listed : Listed) (at : ℕ) where
   -- a type is read behind a dash, or is at fault

@@ -1,3 +1,4 @@
+pub mod Promise
 pub mod Forms
 pub mod Items
 pub mod Values
@@ -16,3 +17,4 @@ pub mod Steps
 pub mod PlainSections
 pub mod TypedSteps
 pub mod Kinds
+pub mod Words

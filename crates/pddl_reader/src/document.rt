@@ -4,7 +4,7 @@ ghost use Rattle.pddl_reader.specs.Forms.{word_of, form_at};
 ghost use Rattle.pddl_reader.specs.Items.{IsTokenOver, IsItemOver, AreItemsOver, forms_at, IsFaultOf};
 ghost use Rattle.pddl_reader.specs.Kept.{KeepsValues, KeepsSections, AddsSection};
 ghost use Rattle.pddl_reader.specs.PlainSections.{plain_section};
-ghost use Rattle.pddl_reader.specs.Reading.{kind_by, is_repeated, new_kind, section_in, section_at, sections_from, head_in, head_at, document_in, domain_in, problem_in};
+ghost use Rattle.pddl_reader.specs.Reading.{kind_by, is_repeated, new_kind, section_in, section_at, sections_from, head_in, head_at, document_rest, document_in, domain_in, problem_in};
 ghost use Rattle.pddl_reader.specs.Sections.{SectionValue, kind_of, kinds_of};
 ghost use Rattle.pddl_reader.specs.Spelling.{document_word};
 
@@ -321,6 +321,27 @@ fn head(alloc: Global, text: &[u8], document: Document, item: &Item) -> Result<N
     }
 }
 
+/// Reads the name and the sections of the document at the place.
+fn document_rest(
+    alloc: Global,
+    text: &[u8],
+    document: Document,
+    at: u32,
+    items: &[Item],
+) -> Result<(Name, Values), PddlFault>
+    requires { AreItemsOver text.now items.now }
+    ensures read { IfOk result (λ x. (seen : List SectionValue)
+        × (document_rest document at (forms_at text.now items.now) ≡ Ok (x.0, seen))
+        × KeepsValues seen x.1) }
+    ensures fault { IfErr result
+        (IsFaultOf (document_rest document at (forms_at text.now items.now))) }
+{
+    let (first, rest) = first_item(at, items)?;
+    let name = head(alloc, text, document, first)?;
+    let values = read_sections(alloc, text, document, rest)?;
+    Ok((name, values))
+}
+
 /// Reads the document in the list at the place: its name and its sections.
 fn read_document(
     alloc: Global,
@@ -340,10 +361,7 @@ fn read_document(
     if !is_word(text, token, "define") {
         return Err(PddlFault::Shape(token.from));
     }
-    let (first, rest) = first_item(at, rest)?;
-    let name = head(alloc, text, document, first)?;
-    let values = read_sections(alloc, text, document, rest)?;
-    Ok((name, values))
+    document_rest(alloc, text, document, at, rest)
 }
 
 /// Reads the domain in the list at the place.

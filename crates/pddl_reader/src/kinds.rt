@@ -1,12 +1,12 @@
 /// What a typed list has: names, as in types, constants and objects, or variables.
-#[derive(Clone, Copy, Debug, PartialEq, Eq)]
+#[derive(Clone, Copy)]
 pub(crate) enum Listed {
     Names,
     Variables,
 }
 
 /// Where a condition or an atom may stand.
-#[derive(Clone, Copy, Debug, PartialEq, Eq)]
+#[derive(Clone, Copy)]
 pub(crate) enum Part {
     Precondition,
     Effect,
@@ -15,14 +15,14 @@ pub(crate) enum Part {
 }
 
 /// What a text is read as.
-#[derive(Clone, Copy, Debug, PartialEq, Eq)]
+#[derive(Clone, Copy)]
 pub(crate) enum Document {
     Domain,
     Problem,
 }
 
 /// The kinds of sections.
-#[derive(Clone, Copy, Debug, PartialEq, Eq)]
+#[derive(Clone, Copy, PartialEq, Eq)]
 pub(crate) enum SectionKind {
     Requirements,
     Types,
@@ -37,7 +37,7 @@ pub(crate) enum SectionKind {
 }
 
 /// The kinds of parts of an action.
-#[derive(Clone, Copy, Debug, PartialEq, Eq)]
+#[derive(Clone, Copy, PartialEq, Eq)]
 pub(crate) enum ActionPart {
     Parameters,
     Precondition,

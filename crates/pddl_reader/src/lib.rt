@@ -42,4 +42,4 @@ mod words;
 pub use faults::{Feature, PddlFault};
 pub use pddl_lexer::TreeFault;
 pub use read::{read_domain, read_problem};
-pub use values::{Domain, Literal, Name, Predicate, Problem, Schema, Term, TypedName};
+pub use values::{Domain, Literal, Name, Predicate, Problem, Schema, Term, TypedName, Types};

@@ -8,7 +8,7 @@ ghost use Rattle.pddl_reader.specs.Reading.{each_at, name_at, either_at, begins_
 use crate::classes;
 use crate::faults::{Feature, PddlFault};
 use crate::kinds::Listed;
-use crate::values::{Name, TypedName};
+use crate::values::{Name, TypedName, Types};
 use crate::words::{bytes_of, is_word, name, word};
 use pddl_lexer::Item;
 use std::alloc::{AllocError, Global};
@@ -87,7 +87,12 @@ fn list_type(
 }
 
 /// Reads a type, which is one name or more.
-fn types(alloc: Global, text: &[u8], listed: Listed, item: &Item) -> Result<Vec<Name>, PddlFault>
+fn type_names(
+    alloc: Global,
+    text: &[u8],
+    listed: Listed,
+    item: &Item,
+) -> Result<Vec<Name>, PddlFault>
     requires { IsItemOver text.now item.now }
     ensures read { IfOk result
         (λ types. type_at listed (form_at text.now item.now) ≡ Ok types.items) }
@@ -103,35 +108,27 @@ fn types(alloc: Global, text: &[u8], listed: Listed, item: &Item) -> Result<Vec<
     }
 }
 
-fn copy(alloc: Global, name: &Name) -> Result<Name, AllocError>
-    ensures { IfOk result (λ copy. copy ≡ name.now) }
+/// The type, for names to share.
+fn shared_type(alloc: Global, text: &[u8], listed: Listed, item: &Item) -> Result<Types, PddlFault>
+    requires { IsItemOver text.now item.now }
+    ensures read { IfOk result (λ types. type_at listed (form_at text.now item.now) ≡ Ok types) }
+    ensures fault { IfErr result (IsFaultOf (type_at listed (form_at text.now item.now))) }
 {
-    let text = String::from_str(alloc, name.text.as_str())?;
-    Ok(Name { text, at: name.at })
-}
-
-fn copies(alloc: Global, names: &[Name]) -> Result<Vec<Name>, AllocError>
-    ensures { IfOk result (λ copies. copies.items ≡ names.now) }
-{
-    let mut copies = Vec::new(alloc);
-    for name in names {
-        copies.push(copy(alloc, name)?)?;
-    }
-    Ok(copies)
+    let names = type_names(alloc, text, listed, item)?;
+    Ok(Types::new(alloc, names)?)
 }
 
 /// Adds the elements, each with the types.
 fn add_typed(
-    alloc: Global,
     names: &mut Vec<TypedName>,
     elements: Vec<Name>,
-    types: &[Name],
+    types: &Types,
 ) -> Result<(), AllocError>
     ensures { OnOk result
         (names.new.items ≡ names.old.items ++ typed_by types.now elements.items) }
 {
     for name in elements {
-        let types = copies(alloc, types)?;
+        let types = types.share()?;
         names.push(TypedName { name, types })?;
     }
     Ok(())
@@ -146,6 +143,7 @@ fn untyped(alloc: Global, name: Name) -> Result<TypedName, AllocError>
         text: String::from_str(alloc, "object")?,
         at: name.at,
     })?;
+    let types = Types::new(alloc, types)?;
     Ok(TypedName { name, types })
 }
 
@@ -190,9 +188,9 @@ impl TypedReading {
             (Takes listed self.old (form_at text.now item.now) self.new) }
         ensures refused { IfErr result (Refuses listed self.old (form_at text.now item.now)) }
     {
-        let types = types(alloc, text, listed, item)?;
+        let types = shared_type(alloc, text, listed, item)?;
         let elements = mem::replace(&mut self.waiting, Vec::new(alloc));
-        add_typed(alloc, &mut self.names, elements, &types)?;
+        add_typed(&mut self.names, elements, &types)?;
         self.dash = false;
         Ok(())
     }

@@ -1,4 +1,6 @@
+use std::alloc::{AllocError, Global};
 use std::marker::Model;
+use std::rc::Rc;
 
 /// A name, folded to lower case.
 #[derive(Debug, Drop)]
@@ -17,12 +19,56 @@ impl Model for Name {
     ghost view = { λ n. record { text = string_bytes n.text; at = n.at } };
 }
 
+/// The types of a name. The names of a typed list before one dash share them, so that a value takes no
+/// more memory than a multiple of its text.
+#[derive(Drop)]
+pub struct Types {
+    names: Rc<Vec<Name>>,
+}
+
+impl Model for Types {
+    ghost use Rattle.std.specs.Prelude.{List};
+    ghost use Rattle.pddl_reader.specs.Forms.{Word};
+
+    ghost Value = { List Word };
+
+    ghost view = { λ t. t.names.value.items };
+}
+
+impl Types {
+    ghost use Rattle.std.specs.Prelude.{◌≡◌, IfOk};
+
+    pub(crate) fn new(alloc: Global, names: Vec<Name>) -> Result<Types, AllocError>
+        ensures { IfOk result (λ types. types ≡ names.items) }
+    {
+        Ok(Types {
+            names: Rc::new(alloc, names)?,
+        })
+    }
+
+    /// The types, in text order.
+    pub fn as_slice(&self) -> &[Name]
+        ensures { result.now ≡ self.now }
+    {
+        self.names.as_slice()
+    }
+
+    /// One more owner of the types.
+    pub(crate) fn share(&self) -> Result<Types, AllocError>
+        ensures { IfOk result (λ types. types ≡ self.now) }
+    {
+        Ok(Types {
+            names: self.names.clone()?,
+        })
+    }
+}
+
 /// A name, or a variable with its question mark, and its types. More than one type stands for
 /// `either`. Where no type is written, the type is `object`, at the place of the name.
-#[derive(Debug, Drop)]
+#[derive(Drop)]
 pub struct TypedName {
     pub name: Name,
-    pub types: Vec<Name>,
+    pub types: Types,
 }
 
 impl Model for TypedName {
@@ -30,11 +76,11 @@ impl Model for TypedName {
 
     ghost Value = { PlainTypedName };
 
-    ghost view = { λ n. record { name = n.name; types = n.types.items } };
+    ghost view = { λ n. record { name = n.name; types = n.types } };
 }
 
 /// A term of a literal.
-#[derive(Debug, Drop)]
+#[derive(Drop)]
 pub enum Term {
     /// The name begins with its question mark.
     Variable(Name),
@@ -42,7 +88,7 @@ pub enum Term {
 }
 
 /// An atom, or its negation.
-#[derive(Debug, Drop)]
+#[derive(Drop)]
 pub struct Literal {
     pub positive: bool,
     pub predicate: Name,
@@ -60,7 +106,7 @@ impl Model for Literal {
 }
 
 /// An action of a domain. Its literals stand in text order.
-#[derive(Debug, Drop)]
+#[derive(Drop)]
 pub struct Schema {
     pub name: Name,
     pub parameters: Vec<TypedName>,
@@ -77,7 +123,7 @@ impl Model for Schema {
 }
 
 /// A predicate of a domain.
-#[derive(Debug, Drop)]
+#[derive(Drop)]
 pub struct Predicate {
     pub name: Name,
     pub parameters: Vec<TypedName>,
@@ -92,7 +138,7 @@ impl Model for Predicate {
 }
 
 /// A domain. Its lists stand in text order.
-#[derive(Debug, Drop)]
+#[derive(Drop)]
 pub struct Domain {
     pub name: Name,
     pub types: Vec<TypedName>,
@@ -110,7 +156,7 @@ impl Model for Domain {
 }
 
 /// A problem. Its lists stand in text order.
-#[derive(Debug, Drop)]
+#[derive(Drop)]
 pub struct Problem {
     pub name: Name,
     /// The name of the domain that the problem is for.

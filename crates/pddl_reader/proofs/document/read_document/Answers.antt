@@ -1,7 +1,4 @@
 use Rattle.pddl_reader.proofs.document.read_document.Goals as goal
 
-pub head-requires : goal.head-requires
-head-requires c = c.in_ok-first.ensures.found.over_item c.args.text.now (c.in_ok-token.ensures.found.over_rest c.args.text.now c.requires)
-
-pub read_sections-requires : goal.read_sections-requires
-read_sections-requires c = c.in_ok-first.ensures.found.over_rest c.args.text.now (c.in_ok-token.ensures.found.over_rest c.args.text.now c.requires)
+pub document_rest-requires : goal.document_rest-requires
+document_rest-requires c = c.in_ok-token.ensures.found.over_rest c.args.text.now c.requires

@@ -1,9 +1,10 @@
 use Rattle.std.proofs.Common.{[], arith, subst}
+use Rattle.std.proofs.lemmas.List.{drop_all}
 use Rattle.pddl_reader.specs.Forms.{form_at}
 use Rattle.pddl_reader.specs.Items.{forms_at}
 use Rattle.pddl_reader.specs.Reading.{section_at, sections_from}
 use Rattle.pddl_reader.proofs.ReadLemmas.{drop-next, fault_passes, next_over}
-use Rattle.pddl_reader.proofs.SectionReads.{ReadsSections, next_section, section_fault}
+use Rattle.pddl_reader.proofs.SectionReads.{ReadsSections, next_section, section_fault, sections_end}
 use Rattle.pddl_reader.proofs.document.read_sections.Goals as goal
 
 pub take-requires : goal.take-requires
@@ -35,3 +36,11 @@ loop-item-preserved c =
       over = (next_over text items i c.item-item.result (omega arith) c.item-item.is c.loop-item.invariant.over).1;
       reads = next_section document forms _ _ sections c.take.new.self read.0 here read.1 read.2;
     }
+
+pub returns-clause-read : goal.returns-clause-read
+returns-clause-read c =
+    let text = c.args.text.now in
+    let items = c.args.items.now in
+    let forms = forms_at text items in
+    sections_end c.args.document forms c.loop-item.sections
+    (subst (λ rest. ReadsSections c.args.document forms c.loop-item.sections (forms_at text rest)) (drop_all c.loop-item.item-index items c.loop-item-test.false) c.loop-item.invariant.reads)

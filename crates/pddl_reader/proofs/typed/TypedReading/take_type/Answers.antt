@@ -12,9 +12,9 @@ returns-clause-taken c =
     let listed = c.args.listed in
     let names = c.args.self.now.names.items in
     let waiting = c.args.self.now.waiting.items in
-    let types = c.in_ok-types.types.items in
+    let types = c.in_ok-types.types in
     let elements : c.replace-elements.result.items ≡ waiting = rw c.replace-elements.ensures.value refl in
-    let added = c.in_ok-add_typed.ensures ∙ ap (λ ts. names ++ typed_by ts c.replace-elements.result.items) c.deref.ensures.value ∙ ap (λ es. names ++ typed_by types es) elements in
+    let added = c.in_ok-add_typed.ensures ∙ ap (λ es. names ++ typed_by types es) elements in
     let none : c.replace-elements.new.dest.items ≡ [] = rw c.replace-elements.ensures.after c.new.ensures.items in
     let f = form_at c.args.text.now c.args.item.now in
     λ at forms.

@@ -8,7 +8,7 @@ use Rattle.pddl_reader.specs.Values.{PlainTypedName, PlainTerm, PlainLiteral, Pl
 use Rattle.pddl_reader.specs.Values.PlainTerm.{Variable, Constant}
 use Rattle.pddl_reader.specs.Classes.{is_name, is_variable, is_element, is_predicate, head_feature}
 use Rattle.pddl_reader.specs.Typed.{IsNameWord}
-use Rattle.pddl_print.specs.CanonicalForms.{AllTyped, AllLiteral}
+use Rattle.pddl_reader.specs.Words.{AllTyped, AllLiteral}
 
 -- a name has one type, a variable at least one
 abbrev pub SoundTypes : Listed → List Word → Type 0

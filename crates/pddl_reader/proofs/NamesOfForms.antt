@@ -12,9 +12,8 @@ use Rattle.pddl_reader.specs.Classes.{is_element}
 use Rattle.pddl_reader.specs.Typed.{IsNameWord, IsType, TypedGroup, AreElements, IsTypedGroup, group_forms, group_value, untyped, IsTypedList}
 use Rattle.pddl_reader.specs.Conditions.{IsTerm, AreTerms, IsAtom, IsLiteral, IsCondition, AreConditions, IsStartAtom}
 use Rattle.pddl_reader.specs.Sections.{Pairwise, PartValue, HasParameters, HasPrecondition, HasEffect, IsPart, AreParts, parameters_in, preconditions_in, effects_in, IsAction, IsPredicate, SectionValue, HasTypes, HasConstants, HasPredicates, HasAction, HasDomain, HasObjects, HasInit, IsContent, IsSection, types_in, constants_in, section_predicates_in, actions_in, domains_in, objects_in, init_in}
-use Rattle.pddl_print.specs.Layouts.{AllWords, AllWordsOf}
-use Rattle.pddl_print.specs.CanonicalForms.{AllTerm}
-use Rattle.pddl_print.proofs.NamesOfValues.{SoundTypes, SoundTyped, SoundTerm, SoundLiteral, SoundSchema, SoundPredicate, SoundName}
+use Rattle.pddl_reader.specs.Words.{AllWords, AllWordsOf, AllTerm}
+use Rattle.pddl_reader.proofs.NamesOfValues.{SoundTypes, SoundTyped, SoundTerm, SoundLiteral, SoundSchema, SoundPredicate, SoundName}
 
 pub flat_all : {X A : Type 0} (Q : A → Type 0) (f : X → List A) (xs : List X) → All (λ x. All Q (f x)) xs → All Q (flat_map f xs)
 flat_all Q f [] all = All-nil Q

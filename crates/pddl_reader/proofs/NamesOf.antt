@@ -8,10 +8,9 @@ use Rattle.pddl_reader.specs.Forms.{Word, Form, Forms, Leaf, Group, End, Then, f
 use Rattle.pddl_reader.specs.Values.{PlainTypedName, PlainLiteral, PlainSchema, PlainPredicate, PlainDomain, PlainProblem}
 use Rattle.pddl_reader.specs.Sections.{SectionValue, types_in, constants_in, section_predicates_in, actions_in, domains_in, objects_in, init_in}
 use Rattle.pddl_reader.specs.Spelling.{IsDocument, IsDomain, IsProblem}
-use Rattle.pddl_print.specs.Layouts.{AllWords, AllWordsOf}
-use Rattle.pddl_print.specs.CanonicalForms.{AllTyped, AllLiteral, AllSchema, AllPredicate, AllDomain, AllProblem}
-use Rattle.pddl_print.proofs.NamesOfValues.{SoundTyped, SoundLiteral, SoundSchema, SoundPredicate, SoundName, SoundDomain, SoundProblem}
-use Rattle.pddl_print.proofs.NamesOfForms.{sections_names, types_names, constants_names, predicates_names, actions_names, domains_names, objects_names, init_names}
+use Rattle.pddl_reader.specs.Words.{AllWords, AllWordsOf, AllTyped, AllLiteral, AllSchema, AllPredicate, AllDomain, AllProblem}
+use Rattle.pddl_reader.proofs.NamesOfValues.{SoundTyped, SoundLiteral, SoundSchema, SoundPredicate, SoundName, SoundDomain, SoundProblem}
+use Rattle.pddl_reader.proofs.NamesOfForms.{sections_names, types_names, constants_names, predicates_names, actions_names, domains_names, objects_names, init_names}
 
 module _ (P : List ℕ → Type 0) where
   -- the name and the words of the sections
