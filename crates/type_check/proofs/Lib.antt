@@ -2,7 +2,7 @@ pub mod Passed
 pub mod Known
 mod OneTyped
 mod ObjectPlaces
-mod Pairs
+pub mod Pairs
 pub mod Counts
 mod ChainLaws
 mod NameLaws
@@ -13,6 +13,7 @@ mod TermLaws
 mod LiteralLaws
 mod ParentLaws
 mod TypeLaws
+mod MarkLaws
 mod TypeRows
 mod CountLaws
 mod FitLaws
@@ -22,3 +23,4 @@ mod EntryLaws
 mod ProblemLaws
 mod DomainLaws
 pub mod TypedTasks
+pub mod TypedNames

@@ -12,8 +12,7 @@ use Rattle.std.proofs.lemmas.Option.{none-some, same_Some}
 use Rattle.pddl_reader.specs.Values.{PlainTypedName, PlainDomain}
 use Rattle.type_check.specs.Types.{object_type, names_of, type_of, is_entry, entries, parent_in, parent, above, LiesUnder, Returns, firsts, type_names, place_in}
 use Rattle.type_check.specs.Typing.{IsShortDomain}
-use Rattle.type_check.specs.Chains.{parent_at, climb, LeadsTo, Ends, AreWithin, parents_in, type_parents, NoneReturns}
-use Rattle.type_check.proofs.ChainLaws.{never_returns}
+use Rattle.type_check.specs.Chains.{parent_at, climb, LeadsTo, Circles, AreReturning, AreWithin, parents_in, type_parents}
 use Rattle.type_check.proofs.Counts.{few_types}
 use Rattle.type_check.proofs.NameLaws.{eq-refl, each-filter, Contains-firsts, distinct-firsts, length-firsts, place-below, place-same}
 use Rattle.type_check.proofs.ParentLaws.{parent_at-in, parent_at-place, length-parents_in}
@@ -91,6 +90,11 @@ module _ (d : PlainDomain) where
   few_type_names h =
       omega (arith, length-firsts (object_type ∷ names_of d.types ++ map type_of d.types), length-append (names_of d.types) (map type_of d.types), length-map d.types (λ (m : PlainTypedName). m.name.text), length-map d.types type_of, few_types h.text d h.spells, h.short)
 
+  pub object_first : place_in (type_names d) object_type ≡ 0
+  unfolding type_names
+  object_first =
+      ap (λ b. cond b 0 (suc (place_in (filter (λ y. not (bytes_eq object_type y)) (firsts (names_of d.types ++ map type_of d.types))) object_type))) (eq-refl object_type)
+
   pub object_known : Contains (type_names d) object_type
   unfolding type_names
   object_known = (0, omega arith, refl)
@@ -152,16 +156,6 @@ module _ (d : PlainDomain) where
   pub number_within : (t : List ℕ) → Contains (type_names d) t → place_in (type_names d) t < length (type_parents d)
   number_within t known = omega (arith, place-below (type_names d) t known, length-type_parents)
 
-  -- a type that returns, by numbers
-  pub returns_by_numbers : (t : List ℕ) (p : ℕ) → Contains (type_names d) t → parent_at (type_parents d) (place_in (type_names d) t) ≡ Some p → LeadsTo (type_parents d) p (place_in (type_names d) t) → Returns d t
-  returns_by_numbers t p known up way = by (parent d t) refl (sym (parent_at-place (type_names d) (entries d) t known) ∙ up)
-    where
-      by : (o : Option (List ℕ)) → parent d t ≡ o → option_map (place_in (type_names d)) o ≡ Some p → Returns d t
-      by None e h = absurd (none-some p h)
-      by (Some s) e h =
-          let found = leads_by_numbers s t (above_type t s e) known (subst (λ q. LeadsTo (type_parents d) q (place_in (type_names d) t)) (sym (same_Some _ _ h)) way) in
-          (found.0, ap (option_and_then (above d found.0)) e ∙ found.1)
-
   pub record ReturnsAt (t : List ℕ) : Type 0 where
     pub known : Contains (type_names d) t
     pub up : ℕ
@@ -183,11 +177,29 @@ module _ (d : PlainDomain) where
             way = leads_by_names s t known_parent (n, h);
           }
 
-  pub none_return : ((k : ℕ) → k < length (type_parents d) → Ends (type_parents d) k) → NoneReturns d
-  none_return ends t h =
-      let known = (returns_by_names t h).known in
-      never_returns (type_parents d) (place_in (type_names d) t) (ends (place_in (type_names d) t) (number_within t known)) h.0
-      (climb-above (suc h.0) t known ∙ ap (option_map (place_in (type_names d))) h.1)
+  -- a type returns where its chain of numbers comes back
+  circles_by_names : (t : List ℕ) → Returns d t → Circles (type_parents d) (place_in (type_names d) t)
+  circles_by_names t h = (h.0, climb-above (suc h.0) t (returns_by_names t h).known ∙ ap (option_map (place_in (type_names d))) h.1)
+
+  returns_by_numbers : (t : List ℕ) → Contains (type_names d) t → Circles (type_parents d) (place_in (type_names d) t) → Returns d t
+  returns_by_numbers t known circles = (circles.0, by (above d (suc circles.0) t) refl (sym (climb-above (suc circles.0) t known) ∙ circles.1))
+    where
+      by : (o : Option (List ℕ)) → above d (suc circles.0) t ≡ o → option_map (place_in (type_names d)) (above d (suc circles.0) t) ≡ Some (place_in (type_names d) t) → above d (suc circles.0) t ≡ Some t
+      by None e h = absurd (none-some (place_in (type_names d) t) (sym (ap (option_map (place_in (type_names d))) e) ∙ h))
+      by (Some u) e h =
+          let places = same_Some _ _ (sym (ap (option_map (place_in (type_names d))) e) ∙ h) in
+          let same = place-same (type_names d) u t (above_known (suc circles.0) t u known e) known places in
+          e ∙ ap (λ (x : List ℕ). Some x) same
+
+  pub returns_as_marked : (marks : List Bool) (t : List ℕ) (k : ℕ) → AreReturning (type_parents d) marks → k ≡ place_in (type_names d) t → Contains (type_names d) t
+      → IsTrue (get_or marks k false) ↔ Returns d t
+  returns_as_marked marks t k are is known = (
+    λ yes. returns_by_numbers t known ((are.marked (place_in (type_names d) t)).0 (ap (λ j. get_or marks j false) (sym is) ∙ yes)),
+    λ h. ap (λ j. get_or marks j false) is ∙ (are.marked (place_in (type_names d) t)).1 (circles_by_names t h),
+  )
+
+  pub unknown_stays : (t : List ℕ) → (Contains (type_names d) t → ⊥) → Returns d t → ⊥
+  unknown_stays t unknown h = unknown (returns_by_names t h).known
 
   -- what is asked of names, by numbers
   not_object : (t : List ℕ) → bytes_eq t object_type ≡ false → t ≡ object_type → ⊥
@@ -221,26 +233,11 @@ module _ (d : PlainDomain) where
             let there = subst Goal (sym are) (leads_by_names s t known way) in
             answer.1 (subst (λ i. LeadsTo parents j i) (sym is_t) (subst (λ i. LeadsTo parents i (place_in (type_names d) t)) (sym is_s) there))
 
-    pub returns_none : (t : List ℕ) (k : ℕ) → k ≡ place_in (type_names d) t → parent_at parents k ≡ None → Returns d t → ⊥
-    returns_none t k is none h =
-        let back = returns_by_names t h in
-        none-some back.up (sym none ∙ ap (parent_at parents) is ∙ ap (λ ps. parent_at ps (place_in (type_names d) t)) are ∙ back.is_parent)
+    pub few_parents : (names : List (List ℕ)) → names ≡ type_names d → length names ≤ 2 ^ 32 → length parents ≤ 2 ^ 32
+    few_parents names are_names few = omega (arith, ap length are, length-type_parents, ap length are_names)
 
-    pub returns_some : (t : List ℕ) (k p : ℕ) (r : Bool) → k ≡ place_in (type_names d) t → Contains (type_names d) t → parent_at parents k ≡ Some p
-        → IsTrue r ↔ LeadsTo parents p k → IsTrue r ↔ Returns d t
-    returns_some t k p r is known up answer = (
-      λ yes. returns_by_numbers t p known upward (subst (λ ps. LeadsTo ps p (place_in (type_names d) t)) are (subst (LeadsTo parents p) is (answer.0 yes))),
-      λ h.
-          let back = returns_by_names t h in
-          let same : back.up ≡ p = same_Some _ _ (sym back.is_parent ∙ upward) in
-          answer.1 (subst (LeadsTo parents p) (sym is) (subst (λ ps. LeadsTo ps p (place_in (type_names d) t)) (sym are) (subst (λ q. LeadsTo (type_parents d) q (place_in (type_names d) t)) same back.way))),
-    )
-      where
-        upward : parent_at (type_parents d) (place_in (type_names d) t) ≡ Some p
-        upward = sym (ap (λ ps. parent_at ps (place_in (type_names d) t)) are) ∙ sym (ap (parent_at parents) is) ∙ up
-
-    pub ends_known : ((k : ℕ) → k < length parents → Ends parents k) → NoneReturns d
-    ends_known ends = none_return (λ k less. subst (λ ps. Ends ps k) are (ends k (omega (arith, less, ap length are))))
+    pub returning_of : (marks : List Bool) → AreReturning parents marks → AreReturning (type_parents d) marks
+    returning_of marks h = subst (λ ps. AreReturning ps marks) are h
 
   pub few_by_names : (names : List (List ℕ)) → names ≡ type_names d → IsShortDomain d → length names ≤ 2 ^ 32
   few_by_names names are short = subst (λ ns. length ns ≤ 2 ^ 32) (sym are) (few_type_names short)

@@ -1,6 +1,8 @@
+pub mod Promise
 pub mod Types
 pub mod Values
 pub mod Numbered
+pub mod Ground
 pub mod Checks
 pub mod Rules
 pub mod Typing

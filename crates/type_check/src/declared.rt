@@ -69,7 +69,7 @@ fn declare<'a>(
         (HasFault types.now (typed_checks file types.now names.old declared.now)) }
 {
     add_new(file, names, &declared.name)?;
-    check_types(types, file, &declared.types)
+    check_types(types, file, declared.types.as_slice())
 }
 
 /// Adds names in turn that are declared for the first time, with types of the domain.

@@ -16,7 +16,7 @@ use std::alloc::Global;
 pub(crate) fn type_text(n: &TypedName) -> &str
     ensures { result.now ≡ type_of n.now }
 {
-    match n.types.first() {
+    match n.types.as_slice().first() {
         Some(name) => name.text.as_str(),
         None => "object",
     }

@@ -21,7 +21,7 @@
 //! | `typed.rt`, `faults.rt` | the values that are made, and the rules that can be broken |
 //!
 //! The definitions that contracts cite are in `specs/`: `Types.antt`, `Checks.antt`, `Rules.antt`,
-//! `Values.antt`, `Numbered.antt`, `Typing.antt`.
+//! `Values.antt`, `Numbered.antt`, `Typing.antt`, and `Ground.antt` for the crates above.
 
 #![tactic(auto)]
 

@@ -52,6 +52,7 @@ impl<'s, 'a> Scope<'s, 'a> {
     #[tactic(auto, unfolding(crate::specs::Scopes::named_checks))]
     fn number_of(
         &self,
+        alloc: Global,
         declared: &Declared,
         missing: TypeKind,
         name: &Name,
@@ -67,7 +68,10 @@ impl<'s, 'a> Scope<'s, 'a> {
         let Some((number, found)) = declared.find(name.text.as_str()) else {
             return Err(fault(missing, self.file, name));
         };
-        if !self.types.fit(&found.types, &place.types) {
+        if !self
+            .types
+            .fit(alloc, found.types.as_slice(), place.types.as_slice())?
+        {
             return Err(fault(TypeKind::WrongType, self.file, name));
         }
         Ok(number)
@@ -75,7 +79,12 @@ impl<'s, 'a> Scope<'s, 'a> {
 
     /// The term by its number.
     #[tactic(auto, unfolding(crate::specs::Scopes::named_checks, crate::specs::Scopes::term_in, crate::specs::Scopes::typed_in))]
-    fn typed_term(&self, term: &Term, place: &TypedName) -> Result<TypedTerm, CheckTypeFault>
+    fn typed_term(
+        &self,
+        alloc: Global,
+        term: &Term,
+        place: &TypedName,
+    ) -> Result<TypedTerm, CheckTypeFault>
         ensures typed { IfOk result (λ t. t ≡ typed_in self.now (plain_term term.now)) }
         ensures passed { OnOk result
             (All (Passes self.now.domain) (term_in self.now (plain_term term.now) place.now)) }
@@ -85,12 +94,12 @@ impl<'s, 'a> Scope<'s, 'a> {
         match term {
             Term::Variable(name) => {
                 let missing = TypeKind::UnboundVariable;
-                let number = self.number_of(self.parameters, missing, name, place)?;
+                let number = self.number_of(alloc, self.parameters, missing, name, place)?;
                 Ok(TypedTerm::Parameter(number))
             }
             Term::Constant(name) => {
                 let missing = TypeKind::UnknownName;
-                let number = self.number_of(self.objects, missing, name, place)?;
+                let number = self.number_of(alloc, self.objects, missing, name, place)?;
                 Ok(TypedTerm::Object(number))
             }
         }
@@ -113,7 +122,7 @@ impl<'s, 'a> Scope<'s, 'a> {
     {
         let mut typed = Vec::with_capacity(alloc, terms.len())?;
         for (term, place) in terms.iter().zip(places) {
-            typed.push(self.typed_term(term, place)?)?;
+            typed.push(self.typed_term(alloc, term, place)?)?;
         }
         Ok(typed)
     }
@@ -182,7 +191,12 @@ impl<'s, 'a> Scope<'s, 'a> {
 
     /// The object that the term names, where there are no parameters.
     #[tactic(auto, unfolding(crate::specs::Scopes::object_in, crate::specs::Scopes::typed_in))]
-    fn object_of(&self, term: &Term, place: &TypedName) -> Result<u32, CheckTypeFault>
+    fn object_of(
+        &self,
+        alloc: Global,
+        term: &Term,
+        place: &TypedName,
+    ) -> Result<u32, CheckTypeFault>
         requires { self.now.parameters ≡ [] }
         ensures object { IfOk result (λ k. k ≡ object_in self.now (plain_term term.now)) }
         ensures passed { OnOk result
@@ -190,7 +204,7 @@ impl<'s, 'a> Scope<'s, 'a> {
         ensures fault { IfErr result
             (HasFault self.now.domain (term_in self.now (plain_term term.now) place.now)) }
     {
-        match self.typed_term(term, place)? {
+        match self.typed_term(alloc, term, place)? {
             TypedTerm::Parameter(number) | TypedTerm::Object(number) => Ok(number),
         }
     }
@@ -214,7 +228,7 @@ impl<'s, 'a> Scope<'s, 'a> {
     {
         let mut objects = Vec::with_capacity(alloc, terms.len())?;
         for (term, place) in terms.iter().zip(places) {
-            objects.push(self.object_of(term, place)?)?;
+            objects.push(self.object_of(alloc, term, place)?)?;
         }
         Ok(objects)
     }

@@ -16,7 +16,7 @@ fn place(alloc: Global, files: &Files<'_>, parameter: &TypedName) -> Result<Vec<
     let mut place = Vec::new(alloc);
     let mut number = 0;
     for object in domain.constants.iter().chain(&problem.objects) {
-        if files.types.object_fits(object, &parameter.types) {
+        if files.types.object_fits(object, parameter.types.as_slice()) {
             place.push(number)?;
         }
         number += 1;

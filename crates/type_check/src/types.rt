@@ -1,4 +1,4 @@
-ghost use Rattle.std.specs.Prelude.{◌≡◌, ◌↔◌, ◌∷◌, ◌++◌, [], ℕ, List, IsTrue, All, Any, Contains, IfOk, IfErr, OnOk, IfSome, IfNone};
+ghost use Rattle.std.specs.Prelude.{◌≡◌, ◌↔◌, ◌∷◌, ◌++◌, [], ℕ, List, length, IsTrue, All, Any, Contains, IfOk, IfErr, OnOk, IfSome, IfNone};
 ghost use Rattle.grd_base.specs.declared.roles.FileRole.TheVariants.{Domain as OfDomain};
 ghost use Rattle.pddl_reader.specs.Values.{PlainTypedName};
 ghost use Rattle.type_check.specs.Types.{texts, names_of, type_of, type_names, place_in, FitsTypes, LiesUnder, Returns};
@@ -6,10 +6,10 @@ ghost use Rattle.type_check.specs.Checks.{Meets, Acyclic, Passes, fault_at};
 ghost use Rattle.type_check.specs.Rules.{type_checks};
 ghost use Rattle.type_check.specs.Typing.{IsShortDomain};
 ghost use Rattle.type_check.specs.Tables.{HasFault};
-ghost use Rattle.type_check.specs.Chains.{NoneReturns};
+ghost use Rattle.type_check.specs.Chains.{type_parents, AreReturning, MeetsMark, AreMarks};
 ghost use Rattle.type_check.specs.Parts.{types_rules};
 
-use crate::chains::{all_end, leads_to};
+use crate::chains::{leads_to, mark_up, meets, returning};
 use crate::entries::{is_entry, numbered, parents_of, type_text};
 use crate::faults::{CheckTypeFault, TypeFault, TypeKind};
 use crate::names::Names;
@@ -77,16 +77,61 @@ impl<'a> Types<'a> {
         self.names.place_of(name)
     }
 
-    /// Whether each of the types is, or lies below, one of the others.
-    pub(crate) fn fit(&self, types: &[Name], others: &[Name]) -> bool
+    /// Whether each of the types is, or lies below, one of the others. It walks through no part of a
+    /// chain of parents twice.
+    pub(crate) fn fit(
+        &self,
+        alloc: Global,
+        types: &[Name],
+        others: &[Name],
+    ) -> Result<bool, OutOfMemory>
         requires known { All (Contains (type_names self.now)) (texts types.now) }
-        ensures { IsTrue result ↔ FitsTypes self.now (texts types.now) (texts others.now) }
+        ensures { IfOk result (λ fit. IsTrue fit ↔ FitsTypes self.now (texts types.now) (texts others.now)) }
     {
+        let mut marks = self.marks(alloc, others)?;
+        if marks[0] {
+            return Ok(true);
+        }
         for name in types {
-            if !self.fits_one(name.text.as_str(), others) {
-                return false;
+            if !self.meets_mark(&mut marks, name.text.as_str()) {
+                return Ok(false);
             }
         }
+        Ok(true)
+    }
+
+    // Marks the types that have these names.
+    fn marks(&self, alloc: Global, names: &[Name]) -> Result<Vec<bool>, OutOfMemory>
+        ensures { IfOk result (λ marks. AreMarks self.now names.now marks.items) }
+    {
+        let mut marks = vec![in alloc; false; self.parents.len()]?;
+        for name in names {
+            let Some(number) = self.number_of(name.text.as_str()) else {
+                continue;
+            };
+            marks[number as usize] = true;
+        }
+        Ok(marks)
+    }
+
+    // Whether the chain of parents from the type meets one that is marked. It is then marked up to there.
+    fn meets_mark(&self, marks: &mut [bool], name: &str) -> bool
+        requires known { Contains (type_names self.now) name.now }
+        requires each { length marks.old ≡ length (type_parents self.now) }
+        ensures met { IsTrue result
+            ↔ MeetsMark (type_parents self.now) marks.old (place_in (type_names self.now) name.now) }
+        ensures each { length marks.new ≡ length (type_parents self.now) }
+        ensures same { (j : ℕ)
+            → MeetsMark (type_parents self.now) marks.new j ↔ MeetsMark (type_parents self.now) marks.old j }
+    {
+        let Some(number) = self.number_of(name) else {
+            return false;
+        };
+        let parents = self.parents.as_slice();
+        if !meets(parents, marks, number) {
+            return false;
+        }
+        mark_up(parents, marks, number);
         true
     }
 
@@ -127,43 +172,33 @@ impl<'a> Types<'a> {
     }
 
     // Whether the chain of parents from the type returns to it.
-    fn returns(&self, name: &str) -> bool
+    fn returns(&self, returning: &[bool], name: &str) -> bool
+        requires { AreReturning (type_parents self.now) returning.now }
         ensures { IsTrue result ↔ Returns self.now name.now }
     {
-        let Some(number) = self.number_of(name) else {
-            return false;
-        };
-        let parents = self.parents.as_slice();
-        match parents[number as usize] {
-            Some(parent) => leads_to(parents, parent, number),
+        match self.number_of(name) {
+            Some(number) => returning[number as usize],
             None => false,
         }
     }
 
-    // Whether it is known that no chain of parents returns.
-    fn none_returns(&self, alloc: Global) -> Result<bool, OutOfMemory>
-        ensures { IfOk result (λ none. IsTrue none → NoneReturns self.now) }
-    {
-        all_end(alloc, self.parents.as_slice())
-    }
-
     // Whether a declared type is not `object`, and its chain of parents doesn't return to it.
     #[tactic(auto, unfolding(crate::specs::Types::object_type))]
-    fn is_acyclic(&self, none_returns: bool, name: &str) -> bool
-        requires known { IsTrue none_returns → NoneReturns self.now }
+    fn is_acyclic(&self, returning: &[bool], name: &str) -> bool
+        requires { AreReturning (type_parents self.now) returning.now }
         ensures { IsTrue result ↔ Meets self.now (Acyclic name.now) }
     {
-        name != "object" && (none_returns || !self.returns(name))
+        name != "object" && !self.returns(returning, name)
     }
 
     // Checks a declared type behind those that are seen.
     fn check_entry<'n>(
         &self,
-        none_returns: bool,
+        returning: &[bool],
         seen: &mut Names<'n>,
         n: &'n TypedName,
     ) -> Result<(), CheckTypeFault>
-        requires known { IsTrue none_returns → NoneReturns self.now }
+        requires { AreReturning (type_parents self.now) returning.now }
         ensures added { OnOk result (seen.new ≡ seen.old ++ n.now.name.text ∷ []) }
         ensures passed { OnOk result ((before : List PlainTypedName) → seen.old ≡ names_of before
             → All (Passes self.now) (type_checks before n.now)) }
@@ -173,7 +208,7 @@ impl<'a> Types<'a> {
         if !seen.add(n.name.text.as_str())? {
             return Err(fault_of(TypeKind::Doubled, n));
         }
-        if !self.is_acyclic(none_returns, n.name.text.as_str()) {
+        if !self.is_acyclic(returning, n.name.text.as_str()) {
             return Err(fault_of(TypeKind::TypeCycle, n));
         }
         Ok(())
@@ -185,12 +220,12 @@ impl<'a> Types<'a> {
         ensures passed { OnOk result (All (Passes self.now) (types_rules self.now)) }
         ensures fault { IfErr result (HasFault self.now (types_rules self.now)) }
     {
-        let none_returns = self.none_returns(alloc)?;
+        let returning = returning(alloc, self.parents.as_slice())?;
         let domain = self.domain;
         let mut seen = Names::new(alloc);
         for n in &domain.types {
             if is_entry(n) {
-                self.check_entry(none_returns, &mut seen, n)?;
+                self.check_entry(&returning, &mut seen, n)?;
             }
         }
         Ok(())

@@ -24,19 +24,19 @@ returns-clause-passed c =
     let d = c.args.types.now in
     let file = c.args.file in
     let old = c.args.names.now in
-    let inner : PlainTypedName = record { name = c.declared.inside.name; types = c.declared.inside.types.items } in
+    let inner : PlainTypedName = record { name = c.declared.inside.name; types = c.declared.inside.types } in
     subst (λ (n : PlainTypedName). OnOk c.check_types.result (All (Passes d) (typed_checks file d old n))) c.declared.view_is
     (on_ok_weaker c.check_types.result
     (λ types. All-cons (Passes d) (is_new file old inner.name) (are_types file d inner.types) (c.in_ok-add_new.ensures.passed d)
-    (subst (λ names. All (Passes d) (are_types file d names)) c.deref.ensures.value types)) c.check_types.ensures.passed)
+    (subst (λ names. All (Passes d) (are_types file d names)) c.as_slice.ensures types)) c.check_types.ensures.passed)
 
 pub returns-clause-fault : goal.returns-clause-fault
 returns-clause-fault c =
     let d = c.args.types.now in
     let file = c.args.file in
     let old = c.args.names.now in
-    let inner : PlainTypedName = record { name = c.declared.inside.name; types = c.declared.inside.types.items } in
+    let inner : PlainTypedName = record { name = c.declared.inside.name; types = c.declared.inside.types } in
     subst (λ (n : PlainTypedName). IfErr c.check_types.result (HasFault d (typed_checks file d old n))) c.declared.view_is
-    (IfErr-weaker c.check_types.result (HasFault d (are_types file d c.deref.result.now)) (HasFault d (typed_checks file d old inner))
+    (IfErr-weaker c.check_types.result (HasFault d (are_types file d c.as_slice.result.now)) (HasFault d (typed_checks file d old inner))
     (λ fault has. fault_later d (is_new file old inner.name) (are_types file d inner.types) fault (c.in_ok-add_new.ensures.passed d)
-    (subst (λ names. HasFault d (are_types file d names) fault) c.deref.ensures.value has)) c.check_types.ensures.fault)
+    (subst (λ names. HasFault d (are_types file d names) fault) c.as_slice.ensures has)) c.check_types.ensures.fault)

@@ -38,7 +38,7 @@ loop-object-preserved c =
     let more : next ≡ seen ++ c.in-Some.object.now ∷ [] = map_push (λ (o : Bor PlainTypedName). o.now) c.loop-object.yielded c.in-Some.object in
     let many : c.loop-object.number ≡ length seen = c.loop-object.invariant.2 ∙ sym (length-map c.loop-object.yielded (λ (o : Bor PlainTypedName). o.now)) in
     let same_domain = c.files.invariant.0 ∙ ap (λ f. f.domain) c.files.view_is in
-    let same_types = c.deref-in-loop-object.ensures.value ∙ ap (λ n. n.types) c.parameter.view_is in
+    let same_types = c.as_slice.ensures ∙ ap (λ n. n.types) c.parameter.view_is in
     let new : HasPlace c.args.files.now.domain c.args.parameter.now.types next c.if-object_fits.place.items =
     elim c.if-object_fits.branch [
       | then-object_fits+in_ok-push w ↦ turn_with _ _ _ _ same_domain same_types seen next c.in-Some.object.now more c.loop-object.place.items _ c.loop-object.invariant.3 c.loop-object.number many (ap (λ v. v.items) w.place-is ∙ w.in_ok-push.ensures.items) (c.object_fits.ensures.0 w.if-object_fits.true)

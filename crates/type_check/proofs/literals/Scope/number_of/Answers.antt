@@ -33,7 +33,7 @@ fit-requires c =
     let known = subst (λ (s : PlainScope). HaveKnownTypes s.domain declared) (sym c.self.view_is) c.requires in
     let n = c.in-Some.found.now in
     record {
-      known = subst (λ types. All (Contains (type_names d)) (texts types)) (ap (λ (m : PlainTypedName). m.types) (sym c.found.view_is) ∙ sym c.deref.ensures.value)
+      known = subst (λ types. All (Contains (type_names d)) (texts types)) (ap (λ (m : PlainTypedName). m.types) (sym c.found.view_is) ∙ sym c.as_slice.ensures)
           (find_holds (λ m. All (Contains (type_names d)) (texts m.types)) declared c.as_str.result.now n c.in-Some.ensures.found known.known);
     }
 
@@ -45,22 +45,22 @@ fits {d} {d'} {types} {types'} {others} {others'} {T} same_domain same_types sam
     (subst (λ ts. T ↔ FitsTypes d (texts ts) (texts others')) same_types
     (subst (λ os. T ↔ FitsTypes d (texts types) (texts os)) same_others h))
 
-pub returns-then-not-fit-clause-fault : goal.returns-then-not-fit-clause-fault
+pub returns-then-not-branch-clause-fault : goal.returns-then-not-branch-clause-fault
 unfolding named_checks
-returns-then-not-fit-clause-fault c =
+returns-then-not-branch-clause-fault c =
     let s = c.args.self.now in
     let w = c.args.name.now in
     let declared = c.args.declared.now in
     let place = c.args.place.now in
     let n = c.in-Some.found.now in
     let same : c.as_str.result.now ≡ w.text = c.as_str.ensures.value ∙ ap (λ (x : Word). x.text) c.name.view_is in
-    let fit = fits (ap (λ (t : PlainScope). t.domain) c.self.view_is) (c.deref.ensures.value ∙ ap (λ (m : PlainTypedName). m.types) c.found.view_is)
-    (c.deref-2.ensures.value ∙ ap (λ (m : PlainTypedName). m.types) c.place.view_is) c.fit.ensures in
+    let fit = fits (ap (λ (t : PlainScope). t.domain) c.self.view_is) (c.as_slice.ensures ∙ ap (λ (m : PlainTypedName). m.types) c.found.view_is)
+    (c.as_slice-2.ensures ∙ ap (λ (m : PlainTypedName). m.types) c.place.view_is) c.in_ok-fit.ensures in
     subst (HasFault s.domain (named_checks c.args.missing s.file declared w place))
-    (ap (λ (t : PlainScope). Typing (fault_at WrongType t.file w.at)) (sym c.self.view_is) ∙ sym c.fault-then-not-fit.ensures)
+    (ap (λ (t : PlainScope). Typing (fault_at WrongType t.file w.at)) (sym c.self.view_is) ∙ sym c.fault-then-not-branch.ensures)
     (name_misfits s.domain c.args.missing s.file declared w place n
     (subst (Contains (names_of declared)) same c.in-Some.ensures.known) (subst (λ name. find_name declared name ≡ Some n) same c.in-Some.ensures.found)
-    (λ yes_fits. true≢false (sym (fit.1 yes_fits) ∙ c.if-not-fit.true)))
+    (λ yes_fits. true≢false (sym (fit.1 yes_fits) ∙ c.if-not-branch.true)))
 
 pub returns-clause-passed : goal.returns-clause-passed
 unfolding named_checks
@@ -71,8 +71,8 @@ returns-clause-passed c =
     let place = c.args.place.now in
     let n = c.in-Some.found.now in
     let same : c.as_str.result.now ≡ w.text = c.as_str.ensures.value ∙ ap (λ (x : Word). x.text) c.name.view_is in
-    let fit = fits (ap (λ (t : PlainScope). t.domain) c.self.view_is) (c.deref.ensures.value ∙ ap (λ (m : PlainTypedName). m.types) c.found.view_is)
-    (c.deref-2.ensures.value ∙ ap (λ (m : PlainTypedName). m.types) c.place.view_is) c.fit.ensures in
+    let fit = fits (ap (λ (t : PlainScope). t.domain) c.self.view_is) (c.as_slice.ensures ∙ ap (λ (m : PlainTypedName). m.types) c.found.view_is)
+    (c.as_slice-2.ensures ∙ ap (λ (m : PlainTypedName). m.types) c.place.view_is) c.in_ok-fit.ensures in
     name_fits s.domain c.args.missing s.file declared w place n
     (subst (Contains (names_of declared)) same c.in-Some.ensures.known) (subst (λ name. find_name declared name ≡ Some n) same c.in-Some.ensures.found)
-    (fit.0 c.if-not-fit.false)
+    (fit.0 c.if-not-branch.false)

@@ -5,9 +5,21 @@ use Rattle.type_check.specs.Rules.{type_checks, checks_of_each}
 use Rattle.type_check.specs.Tables.{HasFault}
 use Rattle.type_check.specs.Parts.{types_rules}
 use Rattle.type_check.proofs.FirstFaults.{fault_passes}
+use Rattle.type_check.specs.Chains.{AreReturning, type_parents}
+use Rattle.type_check.proofs.TypeLaws.{all_within, returning_of}
 use Rattle.type_check.proofs.EntryLaws.{names_more, passed_more, fault_more, entries_same}
 use Rattle.type_check.proofs.types.Types.check_entries.Goals as goal
 use Rattle.type_check.proofs.types.Types.check_entries.Goals.{then-is_entry+in_ok-check_entry, else-is_entry}
+
+pub returning-requires-clause-within : goal.returning-requires-clause-within
+returning-requires-clause-within c =
+    all_within c.args.self.now c.as_slice.result.now (c.as_slice.ensures.value ∙ c.self.invariant.are_parents ∙ ap type_parents c.self.view_is)
+
+pub check_entry-requires : goal.check_entry-requires
+check_entry-requires c =
+    let d = c.args.self.now in
+    let are = c.as_slice.ensures.value ∙ c.self.invariant.are_parents ∙ ap type_parents c.self.view_is in
+    subst (AreReturning (type_parents d)) (sym c.deref.ensures.value) (returning_of d c.as_slice.result.now are c.in_ok-returning.returning.items c.in_ok-returning.ensures)
 
 pub returns-in_err-check_entry-clause-fault : goal.returns-in_err-check_entry-clause-fault
 unfolding types_rules

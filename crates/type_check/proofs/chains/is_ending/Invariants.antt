@@ -1,6 +1,0 @@
-use Rattle.std.proofs.Common.{◌≡◌, ◌<◌, Some, length}
-use Rattle.type_check.specs.Chains.{climb}
-use Rattle.type_check.proofs.chains.is_ending.Given as goal
-
-abbrev pub invariant-loop : goal.invariant-loop
-invariant-loop l = (l.at < length l.parents) × (climb l.parents l.counter l.from ≡ Some l.at)
