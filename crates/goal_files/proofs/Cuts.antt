@@ -4,7 +4,8 @@ use Rattle.std.specs.Prelude.{◌==◌}
 use Rattle.std.specs.List.{flat_map}
 use Rattle.std.specs.Option.{option_map, option_and_then}
 use Rattle.std.proofs.lemmas.Bool.Decides.{nat_tests}
-use Rattle.goal_files.specs.Lines.{is_blank, is_name_byte, Piece, Blank, Open, Close, Run, bytes_of, IsPiece, MayFollow, FollowEachOther, IsCut, Mark, marks_of}
+use Rattle.pddl_reader.specs.Classes.{is_name_byte}
+use Rattle.goal_files.specs.Lines.{is_blank, Piece, Blank, Open, Close, Run, bytes_of, IsPiece, MayFollow, FollowEachOther, IsCut, Mark, marks_of}
 
 -- the first byte, if there is one
 abbrev pub StartsBy : (ℕ → Type 0) → List ℕ → Type 0

@@ -30,7 +30,7 @@ line_fault t text OutOfMemory stops = inl refl
 module _ (t : PlainTyped) (task : IsTypedTask t) where
   -- ---- a line spells one goal
 
-  one_goal : (line : List ℕ) (goal other : List PlainGroundAtom) → SpellsGoal t line goal → SpellsGoal t line other → goal ≡ other
+  pub one_goal : (line : List ℕ) (goal other : List PlainGroundAtom) → SpellsGoal t line goal → SpellsGoal t line other → goal ≡ other
   one_goal line goal other g h =
       let ground_atoms = subst (λ atoms. Pairwise (IsAtomOf t) atoms h.ground_atoms) (only_atoms line h.atoms g.atoms h.spelled g.spelled) h.are_atoms in
       g.once ∙ ap without_repeats (same_values (IsAtomOf t) (λ names a b is same. one_atom t names a b task is same) g.atoms g.ground_atoms h.ground_atoms g.are_atoms ground_atoms) ∙ sym h.once

@@ -13,3 +13,5 @@ pub mod GroundLaws
 pub mod LineAnswers
 pub mod GoalAnswers
 pub mod ObservationAnswers
+pub mod NamedLines
+pub mod ReadBack

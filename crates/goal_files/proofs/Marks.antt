@@ -7,7 +7,8 @@ use Rattle.std.specs.Str.{str_to_ascii_lowercase}
 use Rattle.std.proofs.lemmas.Bool.{false≢true}
 use Rattle.std.proofs.lemmas.Bool.Decides.{nat_tests}
 use Rattle.std.proofs.lemmas.List.Elements.{All-from_recursion}
-use Rattle.goal_files.specs.Lines.{is_blank, is_name_byte, Piece, Blank, Open, Close, Run, IsCut, Mark, Opens, Closes, Names, marks_of}
+use Rattle.pddl_reader.specs.Classes.{is_name_byte}
+use Rattle.goal_files.specs.Lines.{is_blank, Piece, Blank, Open, Close, Run, IsCut, Mark, Opens, Closes, Names, marks_of}
 use Rattle.goal_files.specs.Reading.{run_marks, front_of}
 use Rattle.goal_files.proofs.Cuts.{StartsBy, extended, with_byte, cut_of, marks_at, with_blank, with_name, is_cut}
 

@@ -29,7 +29,7 @@ line_fault t text OutOfMemory stops = inl refl
 module _ (t : PlainTyped) (task : IsTypedTask t) where
   -- ---- a line spells one action
 
-  one_spelled : (line : List ℕ) (n m : PlainGroundName) → SpellsAction t line n → SpellsAction t line m → n ≡ m
+  pub one_spelled : (line : List ℕ) (n m : PlainGroundName) → SpellsAction t line n → SpellsAction t line m → n ≡ m
   one_spelled line n m g h =
       one_action t g.names n m task g.is_action (subst (λ names. IsActionOf t names m) (one_list line h.names g.names h.spelled g.spelled) h.is_action)
 

@@ -1,3 +1,4 @@
+pub mod Promise
 pub mod Lines
 pub mod Goals
 pub mod Reading

@@ -1,9 +1,9 @@
 -- The lines of a text, and the atoms that a line spells, by their names.
 use Rattle.std.specs.Prelude.{◌≡◌, ◌≢◌, ℕ, ◌<◌, Bool, true, ◌==◌, ◌||◌, if◌then◌else◌, IsTrue, List, [], ◌∷◌, ◌++◌, length, map}
 use Rattle.std.specs.List.{AllByRecursion, flat_map, slice_split}
-use Rattle.std.specs.Char.{is_ascii_alphanumeric}
 use Rattle.std.specs.Str.{str_to_ascii_lowercase}
 use Rattle.std.specs.Str.Lines.{strip_carriage_return}
+use Rattle.pddl_reader.specs.Classes.{is_name_byte}
 
 -- the lines of a text, each without the one carriage return at its end
 abbrev pub lines_of : List ℕ → List (List ℕ)
@@ -17,9 +17,6 @@ is_blank b = b == 32 || b == 9 || b == 44
 abbrev pub is_skipped : List ℕ → Bool
 is_skipped [] = true
 is_skipped (b ∷ rest) = if is_blank b then is_skipped rest else b == 59
-
-abbrev pub is_name_byte : ℕ → Bool
-is_name_byte b = is_ascii_alphanumeric b || b == 45 || b == 95
 
 -- the pieces of which a line is made
 pub data Piece : Type 0 where

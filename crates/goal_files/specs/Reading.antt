@@ -3,7 +3,8 @@ use Rattle.std.specs.Prelude.{ℕ, ◌<◌, Bool, false, not, ◌==◌, List, []
 use Rattle.std.specs.List.{prefix_len}
 use Rattle.std.specs.Option.{option_map, option_and_then}
 use Rattle.std.specs.Str.{str_to_ascii_lowercase}
-use Rattle.goal_files.specs.Lines.{is_blank, is_name_byte, Mark, Opens, Closes, Names}
+use Rattle.pddl_reader.specs.Classes.{is_name_byte}
+use Rattle.goal_files.specs.Lines.{is_blank, Mark, Opens, Closes, Names}
 use Rattle.goal_files.specs.declared.pieces.Piece.{Piece}
 use Rattle.goal_files.specs.declared.pieces.Piece.TheVariants.{Blank, Open, Close, Run}
 use Rattle.goal_files.specs.declared.atoms.Reading.{Reading}

@@ -1,5 +1,6 @@
 -- A file of lines: what its lines that are not skipped spell, and its first faulty line.
-use Rattle.std.specs.Prelude.{◌≡◌, ℕ, ◌+◌, ◌⊎◌, true, false, not, List, ◌∷◌, ◌++◌, length, filter, All}
+use Rattle.std.specs.Prelude.{◌≡◌, ℕ, ◌+◌, ◌⊎◌, true, false, not, List, [], ◌∷◌, ◌++◌, length, filter, All}
+use Rattle.std.specs.List.{flat_map}
 use Rattle.pddl_reader.specs.Sections.{Pairwise}
 use Rattle.goal_files.specs.Lines.{lines_of, is_skipped}
 
@@ -21,3 +22,7 @@ pub record IsFirstBad {X : Type 0} (Spells : List ℕ → X → Type 0) (text : 
   pub counted : number ≡ length before + 1
   pub read : is_skipped line ≡ false
   pub fault : P line
+
+-- texts as the lines of a file, each with a line feed behind it
+abbrev pub as_lines : List (List ℕ) → List ℕ
+as_lines lines = flat_map (λ line. line ++ 10 ∷ []) lines

@@ -16,6 +16,7 @@
 //! | `names.rt` | names by their numbers, for that index |
 //! | `atom_set.rt` | keeps each atom of a goal once |
 //! | `faults.rt` | what can be at fault in a file |
+//! | `laws.rt` | that the texts of ground actions and atoms read back |
 //!
 //! The definitions that contracts cite are in `specs/`: `Lines.antt`, `Ground.antt`, `SpelledLines.antt`,
 //! `Goals.antt`, `Observations.antt`.
@@ -27,6 +28,7 @@ mod atoms;
 mod faults;
 mod goals;
 mod index;
+mod laws;
 mod names;
 mod observations;
 mod pieces;
@@ -34,4 +36,5 @@ mod text_lines;
 
 pub use faults::{GoalFault, ObsFault};
 pub use goals::read_goals;
+pub use laws::names_read_back;
 pub use observations::read_observations;

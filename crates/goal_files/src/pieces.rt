@@ -3,7 +3,8 @@ ghost use Rattle.std.specs.List.{prefix_len};
 ghost use Rattle.std.specs.Option.{option_map};
 ghost use Rattle.std.specs.Str.{str_to_ascii_lowercase};
 ghost use Rattle.std.specs.Str.Lines.{strip_carriage_return};
-ghost use Rattle.goal_files.specs.Lines.{is_blank, is_name_byte, is_skipped};
+ghost use Rattle.pddl_reader.specs.Classes.{is_name_byte};
+ghost use Rattle.goal_files.specs.Lines.{is_blank, is_skipped};
 ghost use Rattle.goal_files.specs.Reading.{begins_name, IsAsciiPiece, front_of, past_blanks, piece_marks};
 
 use std::alloc::{AllocError, Global};

@@ -16,10 +16,11 @@ use Rattle.indexmap.specs.IndexSet.{insert_key}
 use Rattle.indexmap.proofs.CallerLemmas.{Contains-insert_key, Contains-list_any}
 use Rattle.strips_model.specs.Worlds.{has_atom}
 use Rattle.type_check.specs.Values.{PlainTyped, PlainTypedPredicate, PlainGroundAtom, is_same_atom}
+use Rattle.type_check.specs.Ground.{IsTypedAtom}
 use Rattle.ground_all.specs.declared.atoms.Standing.TheVariants.{True, False}
 use Rattle.ground_all.specs.declared.atoms.StaticAtom.{StaticAtom}
 use Rattle.ground_all.specs.Tuples.{tuples}
-use Rattle.ground_all.specs.Grounding.{is_fluent, atoms_of, fluent_atoms, IsTypedAtom}
+use Rattle.ground_all.specs.Grounding.{is_fluent, atoms_of, fluent_atoms}
 use Rattle.ground_all.specs.Sound.{ArePlaces, IsSound}
 use Rattle.ground_all.specs.Found.{atom_blocks, fluent_marks, IsKeyOf, IsStanding, AreIndexed}
 use Rattle.ground_all.proofs.TupleLaws.{tuples_differ}

@@ -10,8 +10,9 @@ use Rattle.std.proofs.Math.Nat.{pow-le-pow_right}
 use Rattle.std.proofs.lemmas.Option.{slice_get-map, slice_get_within, slice_get-get_or, get_or_from_slice_get}
 use Rattle.std.specs.Option.{option_map}
 use Rattle.type_check.specs.Values.{PlainTyped, PlainTypedPredicate, PlainTypedSchema, PlainGroundAtom, PlainGroundName}
-use Rattle.ground_all.specs.Tuples.{tuples, numbered, FitPlaces}
-use Rattle.ground_all.specs.Grounding.{is_fluent, atoms_of, names_of_schema, fluent_atoms, instances, IsTypedAtom, IsTypedName}
+use Rattle.type_check.specs.Ground.{FitPlaces, IsTypedAtom, IsTypedName}
+use Rattle.ground_all.specs.Tuples.{tuples, numbered}
+use Rattle.ground_all.specs.Grounding.{is_fluent, atoms_of, names_of_schema, fluent_atoms, instances}
 use Rattle.ground_all.specs.Sound.{ArePlaces, IsSound}
 use Rattle.ground_all.specs.Found.{atom_blocks, name_blocks}
 use Rattle.ground_all.proofs.TupleLaws.{has_fit, tuples_differ}

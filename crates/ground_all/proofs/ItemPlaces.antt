@@ -6,8 +6,9 @@ use Rattle.std.specs.Option.{option_map}
 use Rattle.std.proofs.lemmas.List.{length-map, get_or-map}
 use Rattle.std.proofs.lemmas.Option.{slice_get-map, slice_get_within, slice_get_read, get_or_from_slice_get}
 use Rattle.type_check.specs.Values.{PlainTyped, PlainTypedPredicate, PlainTypedSchema, PlainGroundAtom, PlainGroundName}
-use Rattle.ground_all.specs.Tuples.{tuples, numbered, FitPlaces}
-use Rattle.ground_all.specs.Grounding.{is_fluent, atoms_of, names_of_schema, fluent_atoms, instances, IsTypedName}
+use Rattle.type_check.specs.Ground.{FitPlaces, IsTypedName}
+use Rattle.ground_all.specs.Tuples.{tuples, numbered}
+use Rattle.ground_all.specs.Grounding.{is_fluent, atoms_of, names_of_schema, fluent_atoms, instances}
 use Rattle.ground_all.specs.Sound.{ArePlaces, IsSound}
 use Rattle.ground_all.specs.Found.{atom_blocks, name_blocks, atom_starts, action_starts, starts_of, IsPlaceIn, IsAtomAt, IsActionAt}
 use Rattle.ground_all.proofs.BlockLists.{length-numbered, length-starts_of, start_at}

@@ -5,7 +5,6 @@ pub mod BlockLaws
 pub mod BlockCounts
 pub mod AtomKeys
 pub mod BlockStarts
-pub mod ShortWords
 pub mod PlaceLaws
 pub mod SeenLiterals
 pub mod StartAtoms

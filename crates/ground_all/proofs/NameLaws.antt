@@ -10,8 +10,9 @@ use Rattle.std.proofs.lemmas.Option.{slice_get_within, get_or_from_slice_get, un
 use Rattle.pddl_reader.specs.Classes.{is_name_byte}
 use Rattle.type_check.specs.Values.{PlainTyped, PlainTypedPredicate, PlainTypedSchema, PlainGroundAtom, PlainGroundName}
 use Rattle.type_check.specs.Numbered.{predicate_texts, schema_texts, object_texts}
-use Rattle.ground_all.specs.Grounding.{fluent_atoms, instances, IsTypedAtom, IsTypedName}
-use Rattle.ground_all.specs.Names.{text_at, bracketed, atom_text, action_text, IsTextAt}
+use Rattle.type_check.specs.Ground.{IsTypedAtom, IsTypedName, text_at, bracketed, atom_text, action_text}
+use Rattle.ground_all.specs.Grounding.{fluent_atoms, instances}
+use Rattle.ground_all.specs.Names.{IsTextAt}
 use Rattle.ground_all.specs.Found.{IsAtomAt, IsActionAt}
 use Rattle.ground_all.specs.Sound.{IsShortName, AreNames, IsSound}
 use Rattle.ground_all.proofs.TupleLaws.{fit_below}

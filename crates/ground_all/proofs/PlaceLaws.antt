@@ -1,46 +1,15 @@
 -- The places of parameters: as many, each a short rising list of objects that are there.
-use Rattle.std.proofs.Common.{◌≡◌, ℕ, zero, suc, ◌+◌, ◌-◌, ◌<◌, ◌≤◌, List, [], ◌∷◌, length, Some, slice_get, refl, subst, arith}
+use Rattle.std.proofs.Common.{ℕ, ◌+◌, ◌-◌, ◌<◌, ◌≤◌, List, [], ◌∷◌, length, arith}
 use Rattle.std.specs.List.{All, AllByRecursion, Contains}
-use Rattle.std.proofs.lemmas.List.Elements.{All-nil, All-cons, All-head, All-tail, All-weaker, All-contains_itself, recursion_from_All}
-use Rattle.std.proofs.lemmas.Option.{slice_get_within, none-some, same_Some}
+use Rattle.std.proofs.lemmas.List.Elements.{All-weaker, All-contains_itself, recursion_from_All}
+use Rattle.std.proofs.lemmas.Option.{slice_get_within}
 use Rattle.grd_base.specs.Rising.{IsRisingBy}
 use Rattle.pddl_reader.specs.Values.{PlainTypedName, PlainDomain, PlainProblem}
-use Rattle.pddl_reader.specs.Sections.{Pairwise}
 use Rattle.type_check.specs.Rules.{all_objects, IsWellTyped}
 use Rattle.type_check.specs.Typing.{IsPlace, ArePlaces as ArePlacesOf}
 use Rattle.type_check.proofs.Known.{few_objects}
+use Rattle.type_check.proofs.Pairs.{pairs_length, pairs_give}
 use Rattle.ground_all.specs.Sound.{ArePlaces, AreBelow}
-
--- ---- one by one
-
-pub pairs_length : {X Y : Type 0} (R : X → Y → Type 0) (xs : List X) (ys : List Y) → Pairwise R xs ys → length xs ≡ length ys
-pairs_length R [] [] h = refl
-pairs_length R [] (y ∷ ys) h = absurd h
-pairs_length R (x ∷ xs) [] h = absurd h
-pairs_length R (x ∷ xs) (y ∷ ys) h = omega (arith, pairs_length R xs ys h.1)
-
--- what holds of each of the first holds of each of the second
-pub pairs_give : {X Y : Type 0} (R : X → Y → Type 0) (P : X → Type 0) (Q : Y → Type 0) → ((x : X) (y : Y) → R x y → P x → Q y)
-    → (xs : List X) (ys : List Y) → Pairwise R xs ys → All P xs → All Q ys
-pairs_give R P Q step [] [] h all = All-nil Q
-pairs_give R P Q step [] (y ∷ ys) h all = absurd h
-pairs_give R P Q step (x ∷ xs) [] h all = absurd h
-pairs_give R P Q step (x ∷ xs) (y ∷ ys) h all =
-    All-cons Q y ys (step x y h.0 (All-head P x xs all)) (pairs_give R P Q step xs ys h.1 (All-tail P x xs all))
-
--- what the pairs tell of the first
-pub pairs_tell : {X Y : Type 0} (R : X → Y → Type 0) (P : X → Type 0) → ((x : X) (y : Y) → R x y → P x) → (xs : List X) (ys : List Y) → Pairwise R xs ys → All P xs
-pairs_tell R P step [] ys h = All-nil P
-pairs_tell R P step (x ∷ xs) [] h = absurd h
-pairs_tell R P step (x ∷ xs) (y ∷ ys) h = All-cons P x xs (step x y h.0) (pairs_tell R P step xs ys h.1)
-
--- the second at the place of a first
-pub pairs_at : {X Y : Type 0} (R : X → Y → Type 0) (xs : List X) (ys : List Y) (n : ℕ) (x : X) → Pairwise R xs ys → slice_get xs n ≡ Some x
-    → (y : Y) × (slice_get ys n ≡ Some y) × R x y
-pairs_at R [] ys n x h at = absurd (none-some x at)
-pairs_at R (a ∷ xs) [] n x h at = absurd h
-pairs_at R (a ∷ xs) (y ∷ ys) zero x h at = (y, refl, subst (λ z. R z y) (same_Some a x at) h.0)
-pairs_at R (a ∷ xs) (y ∷ ys) (suc n) x h at = pairs_at R xs ys n x h.1 at
 
 -- ---- rising lists of numbers
 

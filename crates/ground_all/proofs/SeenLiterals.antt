@@ -14,8 +14,8 @@ use Rattle.type_check.specs.Rules.{predicate_names, find_predicate, find_name, f
 use Rattle.type_check.specs.Typing.{typed_term, typed_literal}
 use Rattle.type_check.proofs.Passed.{all_left, all_right}
 use Rattle.type_check.proofs.NameLists.{place_within, predicate_found}
+use Rattle.type_check.proofs.Pairs.{pairs_tell}
 use Rattle.ground_all.specs.Sound.{IsTermOf, IsLiteralOf}
-use Rattle.ground_all.proofs.PlaceLaws.{pairs_tell}
 
 -- the term passes at a place of the parameter's types
 pub record TermPasses (d : PlainDomain) (file : FileRole) (parameters objects : List PlainTypedName) (t : PlainTerm) (place : PlainTypedName) : Type 0 where

@@ -1,41 +1,28 @@
 -- What a typed domain and problem have.
-use Rattle.std.proofs.Common.{◌≡◌, ℕ, ◌≤◌, ◌^◌, List, [], ◌∷◌, ◌++◌, length, sym, ap, subst, arith, codes}
+use Rattle.std.proofs.Common.{◌≡◌, ℕ, ◌≤◌, List, [], ◌∷◌, ◌++◌, length, map, sym, ap, subst, arith}
 use Rattle.std.specs.List.{All, flat_map}
 use Rattle.std.proofs.lemmas.List.{length-map}
-use Rattle.std.proofs.lemmas.List.Elements.{All-head, All-tail, All-append, All-map, All-weaker}
+use Rattle.std.proofs.lemmas.List.Elements.{All-head, All-tail, All-map, All-weaker}
 use Rattle.grd_base.specs.declared.roles.FileRole.TheVariants.{Domain}
 use Rattle.pddl_reader.specs.Kinds.{Names}
 use Rattle.pddl_reader.specs.Values.{PlainLiteral, PlainSchema, PlainPredicate, PlainDomain, PlainProblem}
-use Rattle.pddl_print.proofs.NamesOfValues.{SoundTyped, SoundSchema, SoundPredicate, SoundDomain, SoundProblem}
-use Rattle.pddl_print.proofs.NamesOf.{domain_sound, problem_sound}
+use Rattle.pddl_reader.proofs.NamesOfValues.{SoundTyped}
 use Rattle.type_check.specs.Types.{names_of}
 use Rattle.type_check.specs.Checks.{Passes}
 use Rattle.type_check.specs.Rules.{few_parameters, names_checks, predicate_names, predicate_checks, schema_names, few_literals, literals_of, literal_checks, is_new, action_checks, all_objects, IsWellTyped}
 use Rattle.type_check.specs.Values.{PlainTypedPredicate, PlainTypedSchema, PlainTypedLiteral, PlainTyped}
-use Rattle.type_check.specs.Typing.{typed_object, typed_literal, typed_literals, IsShortDomain, IsShortProblem, IsTypedPredicate, IsTypedSchema, IsTypedTask}
+use Rattle.type_check.specs.Typing.{typed_object, typed_literal, typed_literals, IsTypedPredicate, IsTypedSchema, IsTypedTask}
 use Rattle.type_check.specs.Numbered.{predicate_texts, schema_texts, object_texts}
 use Rattle.type_check.proofs.Passed.{all_left, all_right, each_tells, all_flat, predicates_pass, actions_pass}
 use Rattle.type_check.proofs.Known.{few_objects}
 use Rattle.type_check.proofs.Counts.{few_predicates, few_actions}
 use Rattle.type_check.proofs.TypedTasks.{predicates_numbered, schemas_numbered, objects_numbered}
+use Rattle.type_check.proofs.Pairs.{pairs_length, pairs_give}
+use Rattle.type_check.proofs.TypedNames.{IsFileWord, IsFileName, objects_sound, predicates_named, schemas_named, objects_named}
 use Rattle.ground_all.specs.Sound.{ArePlaces, AreBelow, IsLiteralOf, IsShortName, AreNames, IsSound}
-use Rattle.ground_all.proofs.ShortWords.{IsShort, short_words}
-use Rattle.ground_all.proofs.PlaceLaws.{pairs_length, pairs_give, places_below, places_sound}
+use Rattle.ground_all.proofs.PlaceLaws.{places_below, places_sound}
 use Rattle.ground_all.proofs.SeenLiterals.{literal_within}
 use Rattle.ground_all.proofs.StartAtoms.{HasType, init_typed}
-
--- a word of at most 2^20 bytes
-abbrev Short : List ℕ → Type 0
-Short = IsShort (2 ^ 20)
-
-object_short : Short (codes "object")
-object_short = omega arith
-
-short_domain : (d : PlainDomain) → IsShortDomain d → SoundDomain Short d
-short_domain d is = domain_sound Short is.spells.form d object_short is.spells.is_domain (short_words is.text (2 ^ 20) is.short is.spells.form is.spells.is_form)
-
-short_problem : (p : PlainProblem) → IsShortProblem p → SoundProblem Short p
-short_problem p is = problem_sound Short is.spells.form p object_short is.spells.is_problem (short_words is.text (2 ^ 20) is.short is.spells.form is.spells.is_form)
 
 -- ---- what the checks tell of predicates and actions
 
@@ -105,36 +92,20 @@ module _ (t : PlainTyped) (task : IsTypedTask t) where
       (All-weaker (Passing d a) (λ l. IsLiteralOf (length a.parameters) (typed_literal d (names_of a.parameters) (names_of d.constants) l))
       (literal_within d Domain a.parameters d.constants) ls pass)))
 
-  all_typed : All (SoundTyped Short Names) (all_objects d p)
-  all_typed = All-append (SoundTyped Short Names) d.constants p.objects (short_domain d task.is_domain).constants (short_problem p task.is_problem).objects
-
   have_types : All HasType (all_objects d p)
-  have_types = All-weaker (SoundTyped Short Names) HasType (λ n is. omega (arith, ap length is.types.1)) (all_objects d p) all_typed
+  have_types = All-weaker (SoundTyped IsFileWord Names) HasType (λ n is. omega (arith, ap length is.types.1)) (all_objects d p) (objects_sound t task)
+
+  short_names : {X : Type 0} (name : X → List ℕ) (xs : List X) → All (λ x. IsFileName (name x)) xs → All IsShortName (map name xs)
+  short_names name xs all = All-map IsShortName name xs (All-weaker (λ x. IsFileName (name x)) (λ x. IsShortName (name x)) (λ x h. record { is = h.is; short = h.word.short }) xs all)
 
   predicate_names_are : AreNames (predicate_texts t)
-  predicate_names_are = record {
-    differ = (predicates_numbered t task).differ;
-    each = All-map IsShortName (λ q. q.name.text) t.predicates
-        (of_predicates (SoundPredicate Short) (λ u. IsShortName u.name.text)
-        (λ q u is h. subst (λ w. IsShortName w.text) (sym is.name) (record { is = h.name; short = h.named })) (short_domain d task.is_domain).predicates);
-  }
+  predicate_names_are = record { differ = (predicates_numbered t task).differ; each = short_names (λ q. q.name.text) t.predicates (predicates_named t task) }
 
   schema_names_are : AreNames (schema_texts t)
-  schema_names_are = record {
-    differ = (schemas_numbered t task).differ;
-    each = All-map IsShortName (λ s. s.name.text) t.schemas
-        (of_schemas (SoundSchema Short) (λ s. IsShortName s.name.text)
-        (λ a s is h. subst (λ w. IsShortName w.text) (sym is.name) (record { is = h.name; short = h.named })) (short_domain d task.is_domain).actions);
-  }
+  schema_names_are = record { differ = (schemas_numbered t task).differ; each = short_names (λ s. s.name.text) t.schemas (schemas_named t task) }
 
   object_names_are : AreNames (object_texts t)
-  object_names_are = record {
-    differ = (objects_numbered t task).differ;
-    each = All-map IsShortName (λ o. o.name.text) t.objects
-        (subst (All (λ o. IsShortName o.name.text)) (sym task.made.objects)
-        (All-map (λ o. IsShortName o.name.text) (typed_object d) (all_objects d p)
-        (All-weaker (SoundTyped Short Names) (λ n. IsShortName n.name.text) (λ n is. record { is = is.name; short = is.named.name }) (all_objects d p) all_typed)));
-  }
+  object_names_are = record { differ = (objects_numbered t task).differ; each = short_names (λ o. o.name.text) t.objects (objects_named t task) }
 
   pub sound : IsSound t
   sound = record {

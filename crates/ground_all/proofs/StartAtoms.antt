@@ -15,11 +15,10 @@ use Rattle.type_check.specs.Checks.{Check, OneOf, Fits, Passes, fault_at}
 use Rattle.type_check.specs.Rules.{find_name, fit_checks, literal_checks, all_objects, IsWellTyped}
 use Rattle.type_check.specs.Values.{PlainTyped}
 use Rattle.type_check.specs.Typing.{ObjectFits, ArePlaces as ArePlacesOf, IsTypedPredicate, IsTyped, term_name, ground_atom}
+use Rattle.type_check.specs.Ground.{FitPlaces, IsTypedAtom}
 use Rattle.type_check.proofs.Passed.{init_pass}
 use Rattle.type_check.proofs.NameLists.{contains_none, place_within, name_found}
-use Rattle.ground_all.specs.Tuples.{FitPlaces}
-use Rattle.ground_all.specs.Grounding.{IsTypedAtom}
-use Rattle.ground_all.proofs.PlaceLaws.{pairs_at}
+use Rattle.type_check.proofs.Pairs.{pairs_at}
 use Rattle.ground_all.proofs.SeenLiterals.{something, TermPasses, literal_seen}
 
 -- an object that was read has a type

@@ -5,7 +5,7 @@ use Rattle.std.proofs.lemmas.List.{append_assoc, append-nil, length-map, length-
 use Rattle.std.proofs.lemmas.List.Concat.{flat_map-append}
 use Rattle.type_check.specs.Values.{PlainTyped, PlainTypedObject}
 use Rattle.type_check.specs.Numbered.{object_texts}
-use Rattle.ground_all.specs.Names.{text_at, bracketed}
+use Rattle.type_check.specs.Ground.{text_at, bracketed}
 use Rattle.ground_all.specs.Sound.{IsSound}
 use Rattle.ground_all.proofs.NameLaws.{text_short}
 

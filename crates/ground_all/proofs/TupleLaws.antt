@@ -6,7 +6,8 @@ use Rattle.std.proofs.lemmas.List.{get_or-map, length-map}
 use Rattle.std.proofs.lemmas.List.Elements.{All-nil, All-cons, All-head, All-tail, All-append, All-contains, All-from_recursion, Contains-get_or, Contains-append_right, Contains-append_cases}
 use Rattle.std.proofs.lemmas.List.Kept.{AllPairs-cons}
 use Rattle.grd_base.specs.Rising.{IsRisingBy}
-use Rattle.ground_all.specs.Tuples.{tuples, FitPlaces}
+use Rattle.type_check.specs.Ground.{FitPlaces}
+use Rattle.ground_all.specs.Tuples.{tuples}
 use Rattle.ground_all.specs.Sound.{AreBelow}
 
 -- ---- elements of lists

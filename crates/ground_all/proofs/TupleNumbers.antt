@@ -15,7 +15,8 @@ use Rattle.std.proofs.lemmas.List.Sorted.{searched}
 use Rattle.std.proofs.lemmas.Nat.{mul-le, div_below, mod_below, div-add-mod'}
 use Rattle.std.proofs.lemmas.Option.{slice_get-map, slice_get_within, slice_get-get_or}
 use Rattle.grd_base.specs.Rising.{IsRisingBy}
-use Rattle.ground_all.specs.Tuples.{tuples, FitPlaces}
+use Rattle.type_check.specs.Ground.{FitPlaces}
+use Rattle.ground_all.specs.Tuples.{tuples}
 use Rattle.ground_all.specs.Sound.{ArePlaces}
 use Rattle.ground_all.proofs.TupleLaws.{with_first}
 

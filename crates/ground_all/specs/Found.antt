@@ -7,6 +7,8 @@ use Rattle.type_check.specs.Typing.{IsTypedTask}
 use Rattle.ground_all.specs.Tuples.{tuples, numbered}
 use Rattle.ground_all.specs.Grounding.{is_fluent, atoms_of, names_of_schema, fluent_atoms, instances, ground_task}
 use Rattle.ground_all.specs.Sound.{IsSound}
+use Rattle.ground_all.specs.declared.faults.GroundFault.{GroundFault}
+use Rattle.ground_all.specs.declared.faults.GroundFault.TheVariants.{TooManyAtoms, TooManyActions, OutOfMemory}
 use Rattle.ground_all.specs.declared.atoms.Standing.{Standing}
 use Rattle.ground_all.specs.declared.atoms.Standing.TheVariants.{Fluent, True, False}
 use Rattle.ground_all.specs.declared.atoms.StaticAtom.{StaticAtom}
@@ -42,7 +44,7 @@ pub record IsPlaceIn (lengths : List ℕ) (number list place : ℕ) : Type 0 whe
 
 -- the fluent atoms and the start, which alone decide how atoms are numbered and what is blocked
 abbrev pub start_world : PlainTyped → World PlainGroundAtom
-start_world t = record { fluents = fluent_atoms t; init = t.init; actions = []; goals = [] }
+start_world t = record { fluents = fluent_atoms t; at_start = has_atom is_same_atom t.init; actions = []; goals = [] }
 
 -- the atom has this number, or is static and true, or static and false, at the start
 abbrev pub IsStanding : PlainTyped → PlainGroundAtom → Standing → Type 0
@@ -88,3 +90,23 @@ pub record IsActionAt (t : PlainTyped) (number : ℕ) (schema : PlainTypedSchema
   pub there : slice_get (instances t) number ≡ Some name
   pub declared : slice_get t.schemas name.schema ≡ Some schema
   pub are : name.objects ≡ objects
+
+-- how many fluent atoms each predicate has, and typed instances each schema, where these are few
+pub record HasFewAtoms (t : PlainTyped) (counts : List ℕ) : Type 0 where
+  pub counted : counts ≡ map length (atom_blocks t)
+  pub few : length (fluent_atoms t) ≤ 3072
+
+pub record HasFewActions (t : PlainTyped) (counts : List ℕ) : Type 0 where
+  pub counted : counts ≡ map length (name_blocks t)
+  pub few : length (instances t) ≤ 2 ^ 20
+
+pub record AreCounts (t : PlainTyped) (marks : List Bool) (atoms actions : List ℕ) : Type 0 where
+  pub marked : marks ≡ fluent_marks t
+  pub few_atoms : HasFewAtoms t atoms
+  pub few_actions : HasFewActions t actions
+
+-- too many atoms, or few atoms and too many actions; or memory is wanting
+abbrev pub IsCountFault : PlainTyped → GroundFault → Type 0
+IsCountFault t (TooManyAtoms n) = (n ≡ length (fluent_atoms t)) × (3072 < n)
+IsCountFault t (TooManyActions n) = (length (fluent_atoms t) ≤ 3072) × (n ≡ length (instances t)) × (2 ^ 20 < n)
+IsCountFault t OutOfMemory = Unit {0}

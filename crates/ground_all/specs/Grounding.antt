@@ -1,13 +1,13 @@
 -- The world of a typed domain and problem: its fluent atoms, all typed instances of the actions, its
 -- start and its goals.
-use Rattle.std.specs.Prelude.{◌≡◌, ℕ, Bool, not, ◌==◌, List, [], map, filter, Some, slice_get, slice_index, if◌then◌else◌}
+use Rattle.std.specs.Prelude.{ℕ, Bool, not, ◌==◌, List, [], map, filter, slice_index, if◌then◌else◌}
 use Rattle.std.specs.List.{flat_map, list_any}
 use Rattle.strips_model.specs.Values.{PlainTask}
-use Rattle.strips_model.specs.Worlds.{Instance, World, task_of}
+use Rattle.strips_model.specs.Worlds.{Instance, World, has_atom, task_of}
 use Rattle.type_check.specs.declared.typed.TypedTerm.{TypedTerm}
 use Rattle.type_check.specs.declared.typed.TypedTerm.TheVariants.{Parameter, Object}
 use Rattle.type_check.specs.Values.{PlainTyped, PlainTypedPredicate, PlainTypedSchema, PlainTypedLiteral, PlainGroundAtom, PlainGroundName, is_same_atom}
-use Rattle.ground_all.specs.Tuples.{tuples, numbered, FitPlaces}
+use Rattle.ground_all.specs.Tuples.{tuples, numbered}
 
 -- whether the predicate with this number occurs in an effect
 abbrev pub is_fluent : PlainTyped → ℕ → Bool
@@ -56,25 +56,13 @@ actions_of t = flat_map (λ s. map (instance_of s) (tuples s.places)) t.schemas
 abbrev pub world_of : PlainTyped → List (List PlainGroundAtom) → World PlainGroundAtom
 world_of t goals = record {
   fluents = fluent_atoms t;
-  init = t.init;
+  at_start = has_atom is_same_atom t.init;
   actions = actions_of t;
   goals = goals;
 }
 
 unfoldable pub ground_task : PlainTyped → List (List PlainGroundAtom) → PlainTask
 ground_task t goals = task_of is_same_atom (world_of t goals)
-
--- the atom is one of a predicate's, with an object that fits for each of its places
-pub record IsTypedAtom (t : PlainTyped) (a : PlainGroundAtom) : Type 0 where
-  pub predicate : PlainTypedPredicate
-  pub there : slice_get t.predicates a.predicate ≡ Some predicate
-  pub fit : FitPlaces predicate.places a.objects
-
--- the name is one of an action of the domain, with an object that fits for each of its parameters
-pub record IsTypedName (t : PlainTyped) (n : PlainGroundName) : Type 0 where
-  pub schema : PlainTypedSchema
-  pub there : slice_get t.schemas n.schema ≡ Some schema
-  pub fit : FitPlaces schema.places n.objects
 
 -- what is grounded: a typed domain and problem, and goals
 pub record PlainGrounded : Type 0 where

@@ -1,3 +1,4 @@
+pub mod Promise
 pub mod Tuples
 pub mod Grounding
 pub mod Names

@@ -6,7 +6,7 @@ use Rattle.type_check.specs.declared.typed.TypedTerm.{TypedTerm}
 use Rattle.type_check.specs.declared.typed.TypedTerm.TheVariants.{Parameter, Object}
 use Rattle.type_check.specs.Values.{PlainTyped, PlainTypedLiteral}
 use Rattle.type_check.specs.Numbered.{predicate_texts, schema_texts, object_texts}
-use Rattle.ground_all.specs.Grounding.{IsTypedAtom}
+use Rattle.type_check.specs.Ground.{IsTypedAtom}
 
 -- at most 8 places, each with at most 1,024 objects, rising
 pub record ArePlaces (places : List (List ℕ)) : Type 0 where

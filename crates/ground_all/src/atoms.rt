@@ -1,8 +1,9 @@
 ghost use Rattle.std.specs.Prelude.{◌≡◌, ◌≤◌, ◌↔◌, length, Contains, IfOk, MatchOption};
-ghost use Rattle.ground_all.specs.Grounding.{fluent_atoms, IsTypedAtom};
+ghost use Rattle.ground_all.specs.Grounding.{fluent_atoms};
 ghost use Rattle.ground_all.specs.Sound.{IsSound};
 ghost use Rattle.ground_all.specs.Found.{fluent_marks, atom_starts, IsStanding, IsKeyOf};
 ghost use Rattle.type_check.specs.Values.{PlainGroundAtom};
+ghost use Rattle.type_check.specs.Ground.{IsTypedAtom};
 ghost use Rattle.ground_all.specs.declared.atoms.StaticAtom.{StaticAtom};
 
 use crate::tuples::number_of;

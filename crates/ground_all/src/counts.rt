@@ -1,13 +1,76 @@
-ghost use Rattle.std.specs.Prelude.{◌≡◌, ◌<◌, ◌^◌, ◌==◌, ◌||◌, false, length, map, sum, EachIndex, IfOk, if◌then◌else◌};
+ghost use Rattle.std.specs.Prelude.{◌≡◌, ◌<◌, ◌≤◌, ◌^◌, ◌==◌, ◌||◌, false, length, map, sum, EachIndex, IfOk, IfErr, if◌then◌else◌};
 ghost use Rattle.std.specs.List.{list_any, slice_index_or};
 ghost use Rattle.ground_all.specs.Tuples.{tuples};
+ghost use Rattle.ground_all.specs.Grounding.{fluent_atoms};
 ghost use Rattle.ground_all.specs.Sound.{ArePlaces, IsSound};
-ghost use Rattle.ground_all.specs.Found.{fluent_marks, atom_blocks, name_blocks};
+ghost use Rattle.ground_all.specs.Found.{fluent_marks, atom_blocks, name_blocks, HasFewAtoms, HasFewActions, AreCounts, IsCountFault};
 
+use crate::faults::GroundFault;
 use crate::tuples::count;
 use grd_base::OutOfMemory;
 use std::alloc::Global;
 use type_check::{Typed, TypedLiteral, TypedPredicate};
+
+/// The most fluent atoms.
+const MOST_ATOMS: u128 = 3072;
+
+/// The most typed instances of actions.
+const MOST_ACTIONS: u128 = 1_048_576;
+
+/// What is counted in a typed domain and problem: for each predicate whether it is fluent and how many
+/// fluent atoms it has, and for each action how many typed instances it has.
+#[derive(Drop)]
+pub(crate) struct Counts {
+    pub(crate) fluent: Vec<bool>,
+    pub(crate) atoms: Vec<u128>,
+    pub(crate) actions: Vec<u128>,
+}
+
+/// The counts, where they are within the limits.
+pub(crate) fn few_counts(alloc: Global, typed: &Typed) -> Result<Counts, GroundFault>
+    requires { IsSound typed.now }
+    ensures counts { IfOk result (λ c. AreCounts typed.now c.fluent.items c.atoms.items c.actions.items) }
+    ensures fault { IfErr result (IsCountFault typed.now) }
+{
+    let fluent = fluent_predicates(alloc, typed)?;
+    let atoms = few_atoms(alloc, typed, &fluent)?;
+    let actions = few_actions(alloc, typed)?;
+    Ok(Counts {
+        fluent,
+        atoms,
+        actions,
+    })
+}
+
+/// How many fluent atoms each predicate has, where these are few.
+fn few_atoms(alloc: Global, typed: &Typed, fluent: &[bool]) -> Result<Vec<u128>, GroundFault>
+    requires sound { IsSound typed.now }
+    requires fluent { fluent.now ≡ fluent_marks typed.now }
+    ensures counts { IfOk result (λ counts. HasFewAtoms typed.now counts.items) }
+    ensures fault { IfErr result (IsCountFault typed.now) }
+{
+    let counts = atom_counts(alloc, typed, fluent)?;
+    let atoms = total(&counts);
+    if atoms > MOST_ATOMS {
+        return Err(GroundFault::TooManyAtoms(atoms));
+    }
+    Ok(counts)
+}
+
+/// How many typed instances each action has, where these are few, as the fluent atoms are.
+fn few_actions(alloc: Global, typed: &Typed) -> Result<Vec<u128>, GroundFault>
+    requires sound { IsSound typed.now }
+    requires few { length (fluent_atoms typed.now) ≤ 3072 }
+    ensures counts { IfOk result (λ counts. HasFewActions typed.now counts.items) }
+    ensures fault { IfErr result (IsCountFault typed.now) }
+{
+    let counts = action_counts(alloc, typed)?;
+    let actions = total(&counts);
+    if actions > MOST_ACTIONS {
+        return Err(GroundFault::TooManyActions(actions));
+    }
+    Ok(counts)
+}
 
 /// Which predicates occur in an effect.
 pub(crate) fn fluent_predicates(alloc: Global, typed: &Typed) -> Result<Vec<bool>, OutOfMemory>

@@ -1,28 +1,23 @@
 ghost use Rattle.std.specs.Prelude.{◌≡◌, ◌⊎◌, ℕ, ◌<◌, ◌≤◌, ◌^◌, List, ◌++◌, length, take, drop, Ok, Err, IfOk, IsOk, Some, slice_get};
 ghost use Rattle.type_check.specs.Values.{PlainGroundAtom, PlainGroundName};
 ghost use Rattle.type_check.specs.Typing.{IsTypedTask};
-ghost use Rattle.ground_all.specs.Grounding.{fluent_atoms, instances, ground_task, IsTypedName};
-ghost use Rattle.ground_all.specs.Names.{atom_text, action_text, IsTextAt};
-ghost use Rattle.ground_all.specs.Found.{IsAtomAt, IsActionAt};
+ghost use Rattle.type_check.specs.Ground.{IsTypedName, atom_text, action_text};
+ghost use Rattle.ground_all.specs.Grounding.{fluent_atoms, instances, ground_task};
+ghost use Rattle.ground_all.specs.Names.{IsTextAt};
+ghost use Rattle.ground_all.specs.Found.{AreCounts, IsAtomAt, IsActionAt};
 
 use crate::atoms::Atoms;
-use crate::counts::{action_counts, atom_counts, fluent_predicates, total};
+use crate::counts::{Counts, few_counts, total};
 use crate::faults::GroundFault;
 use crate::names::{bracketed_len, write_bracketed};
 use crate::starts::{place_in, starts};
 use crate::tasks;
 use crate::tuples::{fill, number_of};
-use grd_base::{ActionId, AtomId};
+use grd_base::{ActionId, AtomId, OutOfMemory};
 use std::alloc::Global;
 use std::marker::Model;
 use strips_model::Task;
 use type_check::{Goal, GroundName, Typed, TypedPredicate, TypedSchema};
-
-/// The most fluent atoms.
-const MOST_ATOMS: u128 = 3072;
-
-/// The most typed instances of actions.
-const MOST_ACTIONS: u128 = 1_048_576;
 
 /// A task with the names of its atoms and actions.
 #[derive(Drop)]
@@ -67,25 +62,38 @@ pub fn ground<'t>(
     ensures makes { length (fluent_atoms typed.now) ≤ 3072 → length (instances typed.now) ≤ 2 ^ 20
         → IsOk result ⊎ (result ≡ Err GroundFault.OutOfMemory) }
 {
-    let fluent = fluent_predicates(alloc, typed)?;
-    let atom_counts = atom_counts(alloc, typed, &fluent)?;
-    let atoms = total(&atom_counts);
-    if atoms > MOST_ATOMS {
-        return Err(GroundFault::TooManyAtoms(atoms));
-    }
-    let action_counts = action_counts(alloc, typed)?;
-    let actions = total(&action_counts);
-    if actions > MOST_ACTIONS {
-        return Err(GroundFault::TooManyActions(actions));
-    }
-    let index = Atoms::new(alloc, typed, fluent, starts(alloc, &atom_counts)?)?;
-    let task = tasks::task(alloc, &index, atoms as u32, goals)?;
+    let counts = few_counts(alloc, typed)?;
+    Ok(world(alloc, typed, goals, counts)?)
+}
+
+/// The world with these counts.
+fn world<'t>(
+    alloc: Global,
+    typed: &'t Typed,
+    goals: &'t [Goal],
+    counts: Counts,
+) -> Result<Grounded<'t>, OutOfMemory>
+    requires typed { IsTypedTask typed.now }
+    requires few_goals { length goals.now ≤ 32 }
+    requires counts { AreCounts typed.now counts.fluent.items counts.atoms.items counts.actions.items }
+    ensures typed { IfOk result (λ world. world.typed ≡ typed.now) }
+    ensures goals { IfOk result (λ world. world.goals ≡ goals.now) }
+{
+    let Counts {
+        fluent,
+        atoms,
+        actions,
+    } = counts;
+    let atom_starts = starts(alloc, &atoms)?;
+    let action_starts = starts(alloc, &actions)?;
+    let index = Atoms::new(alloc, typed, fluent, starts(alloc, &atoms)?)?;
+    let task = tasks::task(alloc, &index, total(&atoms) as u32, goals)?;
     Ok(Grounded {
         typed,
         goals,
         task,
-        atom_starts: starts(alloc, &atom_counts)?,
-        action_starts: starts(alloc, &action_counts)?,
+        atom_starts,
+        action_starts,
     })
 }
 

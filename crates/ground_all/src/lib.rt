@@ -9,7 +9,7 @@
 //! | file | what it does |
 //! |---|---|
 //! | `tuples.rt` | numbers the tuples of objects that fit some places, and back, digit by digit |
-//! | `counts.rt` | counts the tuples of each predicate and each action |
+//! | `counts.rt` | counts the tuples of each predicate and each action, and refuses too many |
 //! | `starts.rt` | tells which number is the first of each |
 //! | `atoms.rt` | looks an atom up: a fluent one has a number, a static one is true or false |
 //! | `literals.rt` | makes the atoms of literals, and gathers their numbers |

@@ -1,7 +1,7 @@
 ghost use Rattle.std.specs.Prelude.{◌≡◌, ◌+◌, ◌<◌, ◌≤◌, ◌^◌, ◌++◌, length, take, drop, All};
 ghost use Rattle.type_check.specs.Numbered.{object_texts};
+ghost use Rattle.type_check.specs.Ground.{text_at, bracketed};
 ghost use Rattle.ground_all.specs.Sound.{IsSound};
-ghost use Rattle.ground_all.specs.Names.{text_at, bracketed};
 
 use type_check::Typed;
 

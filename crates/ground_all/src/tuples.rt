@@ -1,5 +1,6 @@
 ghost use Rattle.std.specs.Prelude.{◌≡◌, ◌<◌, length, map, MatchOption, Some, slice_get};
-ghost use Rattle.ground_all.specs.Tuples.{tuples, FitPlaces};
+ghost use Rattle.type_check.specs.Ground.{FitPlaces};
+ghost use Rattle.ground_all.specs.Tuples.{tuples};
 ghost use Rattle.ground_all.specs.Sound.{ArePlaces};
 
 /// How many tuples there are with an object of each place.

@@ -4,8 +4,8 @@ use Rattle.std.specs.List.{flat_map}
 use Rattle.std.specs.Fmt.{decimal}
 use Rattle.grd_base.specs.declared.ids.ActionId.{ActionId}
 use Rattle.type_check.specs.Values.{PlainTyped}
+use Rattle.type_check.specs.Ground.{action_text}
 use Rattle.ground_all.specs.Grounding.{instances}
-use Rattle.ground_all.specs.Names.{action_text}
 use Rattle.strips_model.specs.Values.{PlainWitness}
 
 -- the text of the action with this number

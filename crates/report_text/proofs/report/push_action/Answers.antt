@@ -1,7 +1,7 @@
 use Rattle.std.proofs.Common.{◌≡◌, length, arith, rules}
 use Rattle.std.proofs.lemmas.Grind.{common_steps}
+use Rattle.type_check.specs.Ground.{action_text}
 use Rattle.ground_all.specs.Grounding.{instances}
-use Rattle.ground_all.specs.Names.{action_text}
 use Rattle.report_text.specs.Reports.{action_names, name_of}
 use Rattle.report_text.proofs.ReportLemmas.{whole_text}
 use Rattle.report_text.proofs.report.push_action.Goals as goal

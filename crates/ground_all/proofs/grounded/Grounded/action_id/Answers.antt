@@ -2,8 +2,9 @@ use Rattle.std.proofs.Common.{◌≡◌, ◌+◌, List, ℕ, ap, sym, ◌∙◌,
 use Rattle.std.proofs.lemmas.Bool.{some_since}
 use Rattle.std.proofs.lemmas.Option.{MatchOption-at_some, slice_get_within}
 use Rattle.type_check.specs.Values.{PlainTyped, PlainTypedSchema, PlainGroundName}
-use Rattle.ground_all.specs.Tuples.{tuples, FitPlaces}
-use Rattle.ground_all.specs.Grounding.{instances, IsTypedName, PlainGrounded}
+use Rattle.type_check.specs.Ground.{FitPlaces, IsTypedName}
+use Rattle.ground_all.specs.Tuples.{tuples}
+use Rattle.ground_all.specs.Grounding.{instances, PlainGrounded}
 use Rattle.ground_all.specs.Sound.{ArePlaces}
 use Rattle.ground_all.proofs.SoundLaws.{sound}
 use Rattle.ground_all.proofs.ItemPlaces.{action_starts_many, schema_places, named, fits, number_there}

@@ -1,8 +1,8 @@
 use Rattle.std.proofs.Common.{◌≡◌, ◌<◌, ◌≤◌, ap, sym, ◌∙◌, subst, length, take}
 use Rattle.std.specs.List.{All}
 use Rattle.type_check.specs.Values.{PlainTypedPredicate}
+use Rattle.type_check.specs.Ground.{bracketed}
 use Rattle.ground_all.specs.Grounding.{PlainGrounded}
-use Rattle.ground_all.specs.Names.{bracketed}
 use Rattle.ground_all.specs.Sound.{IsSound}
 use Rattle.ground_all.proofs.SoundLaws.{sound}
 use Rattle.ground_all.proofs.NameLaws.{atom_short, atom_known, text_of_atom}

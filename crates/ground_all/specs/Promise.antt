@@ -1,0 +1,11 @@
+-- The promise: what the clauses of public calls cite of this crate, in the order in which to read it.
+-- What is left out serves private contracts alone.
+
+-- Tuples of objects.
+pub use Rattle.ground_all.specs.Tuples.{tuples, numbered}
+-- The world of a typed domain and problem.
+pub use Rattle.ground_all.specs.Grounding.{is_fluent, atoms_of, fluent_atoms, names_of_schema, instances}
+pub use Rattle.ground_all.specs.Grounding.{object_of, ground_literal, positives, negatives, instance_of}
+pub use Rattle.ground_all.specs.Grounding.{actions_of, world_of, ground_task, PlainGrounded}
+-- Texts that tell an item of a list from all others.
+pub use Rattle.ground_all.specs.Names.{IsTextAt}
