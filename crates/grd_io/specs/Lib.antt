@@ -1,3 +1,4 @@
+pub mod Promise
 pub mod Bytes
 pub mod Causes
 pub mod Counts

@@ -1,5 +1,5 @@
 -- An answer comes where its causes are excluded.
-use Rattle.std.proofs.Common.{◌≡◌, ℕ, ◌^◌, ◌<◌, ◌≤◌, List, length, Bool, Some, refl, sym, subst, inl, inr, arith}
+use Rattle.std.proofs.Common.{◌≡◌, ◌≢◌, ℕ, ◌^◌, ◌<◌, ◌≤◌, List, length, Bool, Some, refl, sym, subst, inl, inr, arith}
 use Rattle.std.proofs.lemmas.List.{length-map}
 use Rattle.grd_base.specs.declared.ids.GoalId.{GoalId}
 use Rattle.grd_base.specs.declared.roles.FileRole.TheVariants.{Domain, Problem, Goals, Observations, Certificate}
@@ -19,6 +19,7 @@ use Rattle.ground_all.specs.declared.faults.GroundFault.{GroundFault}
 use Rattle.ground_all.specs.declared.faults.GroundFault.TheVariants.{TooManyAtoms, TooManyActions, OutOfMemory as CountMemory}
 use Rattle.grd_program.specs.declared.status.Status.{Status}
 use Rattle.grd_program.specs.declared.status.Status.TheVariants.{Done, Refused, Usage, Limit, ReadFailed, WriteFailed, OutOfMemory}
+use Rattle.grd_program.specs.declared.status.Refusal.{Refusal}
 use Rattle.grd_program.specs.declared.status.Refusal.TheVariants.{TooLong, Pddl, Typing, Goals as OfGoals, Count}
 use Rattle.grd_program.specs.declared.status.LimitFault.TheVariants.{States}
 use Rattle.command_words.specs.declared.command.Command.{Command}
@@ -26,6 +27,7 @@ use Rattle.command_words.specs.declared.command.Command.TheVariants.{Cost, Wcd, 
 use Rattle.grd_program.specs.declared.question.Question.{Question}
 use Rattle.grd_program.specs.declared.question.Question.TheVariants.{Costs, Wcd as OfWcd}
 use Rattle.command_words.specs.Commands.{PlainJob, Reads}
+use Rattle.grd_program.specs.Statuses.{IsPlainRefusal, IsPlainStatus}
 use Rattle.grd_program.specs.Causes.{HasText, FailsDomain, FailsProblem, HasFew, HasCountCause, SpellsOnlyGoals, HasOnlyFault}
 use Rattle.grd_program.specs.Runs.{SpellsOnly, TakesTexts, TakesTyped, TakesGoals, ReadsOnly, HasTexts, HasNoFault, CanReport, CanAnswer, HasTextsCause, HasTypedCause, HasFilesCause, HasCommandCause, HasCause, MayBecome, CountsFor, MeetsLimit, IsComplete}
 
@@ -186,6 +188,46 @@ complete told before now words ob on (Refused refusal) h job reads can = inr (as
 complete told before now words ob on (Limit fault) h job reads can = inr (asked_complete told before now words ob on (Limit fault) job h.0 reads can h.1 h.2)
 complete told before now words ob on (ReadFailed role) h job reads can = inr (asked_complete told before now words ob on (ReadFailed role) job h.0 reads can h.1 h.2)
 
+-- a cause has no want of memory inside a refusal
+plain_count : (typed : PlainTyped) (fault : GroundFault) → HasCountCause typed (Refused (Count fault)) → fault ≢ CountMemory
+plain_count typed (TooManyAtoms count) h = λ e. cc
+plain_count typed (TooManyActions count) h = λ e. cc
+plain_count typed CountMemory h = absurd h
+
+module _ (told : List ℕ → Told) (before now : List ℕ → Bool → ℕ) (job : PlainJob) where
+  plain_texts : (refusal : Refusal) → HasTextsCause told before now job (Refused refusal) → IsPlainRefusal refusal
+  plain_texts (TooLong role limit) h = tt
+  plain_texts (Pddl Domain fault) h = h.0
+  plain_texts (Pddl Problem fault) h = h.0
+  plain_texts (Pddl Goals fault) h = absurd h
+  plain_texts (Pddl Observations fault) h = absurd h
+  plain_texts (Pddl Certificate fault) h = absurd h
+  plain_texts (Typing fault) h = tt
+  plain_texts (OfGoals fault) h = absurd h
+  plain_texts (Count fault) h = absurd h
+
+  plain_files : (question : Question) (refusal : Refusal) → HasFilesCause question told before now job (Refused refusal) → IsPlainRefusal refusal
+  plain_files question (TooLong role limit) h = tt
+  plain_files question (Pddl role fault) h = plain_texts (Pddl role fault) h
+  plain_files question (Typing fault) h = tt
+  plain_files question (OfGoals fault) h = h.0
+  plain_files question (Count fault) h = plain_count h.1 fault h.4
+
+  plain_command : (command : Command) (refusal : Refusal) → HasCommandCause command told before now job (Refused refusal) → IsPlainRefusal refusal
+  plain_command Cost refusal h = plain_files Costs refusal h
+  plain_command Wcd refusal h = plain_files OfWcd refusal h
+  plain_command Show refusal h = plain_texts refusal h
+
+plain_cause : (told : List ℕ → Told) (before now : List ℕ → Bool → ℕ) (words : List (List ℕ)) (ob on : ℕ) (s : Status)
+    → HasCause told before now words ob on s → IsPlainStatus s
+plain_cause told before now words ob on Done h = tt
+plain_cause told before now words ob on (Refused refusal) h = plain_command told before now h.0 h.0.command refusal h.2
+plain_cause told before now words ob on (Usage fault) h = tt
+plain_cause told before now words ob on (Limit fault) h = tt
+plain_cause told before now words ob on (ReadFailed role) h = tt
+plain_cause told before now words ob on (WriteFailed target) h = tt
+plain_cause told before now words ob on OutOfMemory h = tt
+
 -- a cause stays where a status may become another
 pub cause_kept : (told : List ℕ → Told) (before now : List ℕ → Bool → ℕ) (words : List (List ℕ)) (ob on : ℕ) (s r : Status)
     → MayBecome s r → HasCause told before now words ob on s → HasCause told before now words ob on r
@@ -201,3 +243,8 @@ cause_kept told before now words ob on (ReadFailed role) r (inl same) h = subst 
 cause_kept told before now words ob on (ReadFailed role) r (inr memory) h = subst (HasCause told before now words ob on) (sym memory) tt
 cause_kept told before now words ob on OutOfMemory r (inl same) h = subst (HasCause told before now words ob on) (sym same) h
 cause_kept told before now words ob on OutOfMemory r (inr memory) h = subst (HasCause told before now words ob on) (sym memory) tt
+
+-- so no want of memory stands inside a refusal
+pub plain_end : (told : List ℕ → Told) (before now : List ℕ → Bool → ℕ) (words : List (List ℕ)) (ob on : ℕ) (s r : Status)
+    → MayBecome s r → HasCause told before now words ob on s → IsPlainStatus r
+plain_end told before now words ob on s r kept h = plain_cause told before now words ob on r (cause_kept told before now words ob on s r kept h)

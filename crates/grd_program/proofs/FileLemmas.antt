@@ -1,5 +1,5 @@
 -- What was read of a file, as a fact on what its shelf tells.
-use Rattle.std.proofs.Common.{◌≡◌, ℕ, Bool, ◌^◌, ◌≤◌, List, ◌++◌, length, Option, Some, None, sym, subst, refl, ◌⊎◌, inl, inr}
+use Rattle.std.proofs.Common.{◌≡◌, ◌≢◌, ℕ, Bool, ◌^◌, ◌≤◌, List, ◌++◌, length, Option, Some, None, sym, subst, refl, ◌⊎◌, inl, inr}
 use Rattle.std.specs.Prelude.{IsSomeAnd, IfSome, IfOk, IsOk, IsOkAnd, Result, Ok, Err}
 use Rattle.grd_io.specs.Bytes.{Told, IsWholeFile}
 use Rattle.pddl_reader.specs.Values.{PlainDomain, PlainProblem}
@@ -23,6 +23,9 @@ use Rattle.pddl_reader.specs.declared.faults.PddlFault.TheVariants.{Lex, Tree, S
 use Rattle.grd_program.specs.declared.status.Status.{Status}
 use Rattle.grd_program.specs.declared.status.Status.TheVariants.{Done, Refused, Usage as BadUsage, Limit, ReadFailed, WriteFailed, OutOfMemory}
 use Rattle.grd_program.specs.declared.status.Refusal.TheVariants.{TooLong, Pddl, Typing, Goals as OfGoals, Count}
+use Rattle.pddl_lexer.specs.declared.faults.TreeFault.{TreeFault}
+use Rattle.pddl_lexer.specs.declared.faults.TreeFault.TheVariants.{OutOfMemory as TreeMemory}
+use Rattle.grd_program.specs.Statuses.{IsPlainFault}
 use Rattle.grd_program.specs.Causes.{HasText, FailsTyping, SpellsOnlyGoals}
 use Rattle.grd_program.specs.Runs.{IsReportOn, SpellsOnly, IsWorldReport, IsShownText, IsReportText, IsShowText, TakesTexts, TakesFiles, HasReadingCause, HasFilesCause, ReadsOnly, HasOnlyUsageFault}
 
@@ -181,6 +184,11 @@ only_fault F {memory = memory} r exactly fault is plain other h = one (exactly o
 pub plain_fault : {E : Type 0} (F : E → Type 0) {memory : E} (fault : E) → (fault ≡ memory) ⊎ F fault → (fault ≡ memory → ⊥) → F fault
 plain_fault F fault (inl is) plain = absurd (plain is)
 plain_fault F fault (inr h) plain = h
+
+-- no want of memory stands in a fault of a text, where it is no fault of any, nor one of its brackets
+pub plain_text : (F : PddlFault → Type 0) → (F PddlMemory → ⊥) → ((fault : TreeFault) → F (Tree fault) → fault ≢ TreeMemory)
+    → (fault : PddlFault) → F fault → IsPlainFault fault
+plain_text F memory tree fault h = ((λ e. memory (subst F e h)), (λ e. tree TreeMemory (subst F e h) refl))
 
 -- how a run ends by a fault of a domain or a problem
 pub pddl_cause : (P : Status → Type 0) (role : FileRole) (fault : PddlFault) (s : Status)

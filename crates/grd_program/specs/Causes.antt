@@ -8,7 +8,6 @@ use Rattle.pddl_reader.specs.Values.{PlainDomain, PlainProblem}
 use Rattle.pddl_reader.specs.Spelling.{IsDomainText, IsProblemText}
 use Rattle.pddl_reader.specs.Faults.{IsDomainFault, IsProblemFault}
 use Rattle.pddl_reader.specs.declared.faults.PddlFault.{PddlFault}
-use Rattle.pddl_reader.specs.declared.faults.PddlFault.TheVariants.{OutOfMemory as PddlOutOfMemory}
 use Rattle.type_check.specs.Values.{PlainTyped, PlainGroundAtom}
 use Rattle.type_check.specs.Rules.{IsWellTyped, IsTypeFault}
 use Rattle.type_check.specs.Typing.{IsTyped}
@@ -21,6 +20,7 @@ use Rattle.ground_all.specs.declared.faults.GroundFault.TheVariants.{TooManyAtom
 use Rattle.grd_program.specs.declared.status.Status.{Status}
 use Rattle.grd_program.specs.declared.status.Status.TheVariants.{Refused, ReadFailed, OutOfMemory}
 use Rattle.grd_program.specs.declared.status.Refusal.TheVariants.{TooLong, Pddl, Typing, Goals as OfGoals, Count}
+use Rattle.grd_program.specs.Statuses.{IsPlainFault}
 
 -- the file is there with at most 2^20 bytes, and its text has the property, where the shelf tells
 abbrev pub HasText : Told → (List ℕ → Type 0) → Type 0
@@ -59,12 +59,12 @@ pub record FailsProblem (fault : PddlFault) (text : List ℕ) : Type 0 where
 -- not be read
 abbrev pub HasDomainCause : Told → (List ℕ → Bool → ℕ) → (List ℕ → Bool → ℕ) → List ℕ → Status → Type 0
 HasDomainCause told before now name (Refused (Pddl Domain fault)) =
-    (fault ≢ PddlOutOfMemory) × IsQuiet before now × HasText told (FailsDomain fault)
+    IsPlainFault fault × IsQuiet before now × HasText told (FailsDomain fault)
 HasDomainCause told before now name status = HasReadCause Domain told before now name status
 
 abbrev pub HasProblemCause : Told → (List ℕ → Bool → ℕ) → (List ℕ → Bool → ℕ) → List ℕ → Status → Type 0
 HasProblemCause told before now name (Refused (Pddl Problem fault)) =
-    (fault ≢ PddlOutOfMemory) × IsQuiet before now × HasText told (FailsProblem fault)
+    IsPlainFault fault × IsQuiet before now × HasText told (FailsProblem fault)
 HasProblemCause told before now name status = HasReadCause Problem told before now name status
 
 -- the domain and the problem are well typed, and make this

@@ -1,5 +1,5 @@
 -- The line that each status but Done writes to the error stream.
-use Rattle.std.specs.Prelude.{◌≡◌, ℕ, ◌+◌, List, [], ◌++◌, codes}
+use Rattle.std.specs.Prelude.{ℕ, ◌+◌, List, [], ◌++◌, codes}
 use Rattle.std.specs.Fmt.{decimal}
 use Rattle.grd_base.specs.declared.roles.FileRole.{FileRole}
 use Rattle.grd_base.specs.declared.roles.FileRole.TheVariants.{Domain, Problem, Goals, Observations, Certificate}
@@ -136,15 +136,3 @@ error_text (Limit (States goal states)) =
 error_text (ReadFailed role) = codes "grd: " ++ role_text role ++ codes ": read failed\n"
 error_text (WriteFailed Output) = codes "grd: output: write failed\n"
 error_text OutOfMemory = codes "grd: out of memory\n"
-
--- no want of memory stands inside a refusal
-abbrev pub IsPlainRefusal : Refusal → Type 0
-IsPlainRefusal (TooLong role limit) = Unit {0}
-IsPlainRefusal (Pddl role fault) = fault ≡ PddlOutOfMemory → ⊥
-IsPlainRefusal (Typing fault) = Unit {0}
-IsPlainRefusal (OfGoals fault) = fault ≡ GoalsOutOfMemory → ⊥
-IsPlainRefusal (Count fault) = fault ≡ CountOutOfMemory → ⊥
-
-abbrev pub IsPlainStatus : Status → Type 0
-IsPlainStatus (Refused refusal) = IsPlainRefusal refusal
-IsPlainStatus status = Unit {0}

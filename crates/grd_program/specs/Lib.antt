@@ -1,3 +1,4 @@
+pub mod Promise
 pub mod Statuses
 pub mod Errors
 pub mod Causes

@@ -17,7 +17,6 @@ use Rattle.type_check.specs.Typing.{IsTyped}
 use Rattle.goal_files.specs.Goals.{SpellsGoals}
 use Rattle.ground_all.specs.Grounding.{ground_task}
 use Rattle.goal_files.specs.declared.faults.GoalFault.TheVariants.{OutOfMemory as GoalsOutOfMemory}
-use Rattle.pddl_reader.specs.declared.faults.PddlFault.TheVariants.{OutOfMemory as PddlOutOfMemory}
 use Rattle.pddl_print.specs.Canonical.{domain_text, problem_text}
 use Rattle.command_words.specs.declared.command.Command.{Command}
 use Rattle.command_words.specs.declared.command.Command.TheVariants.{Cost, Wcd, Show}
@@ -31,6 +30,7 @@ use Rattle.grd_program.specs.declared.status.LimitFault.TheVariants.{States}
 use Rattle.command_words.specs.Commands.{PlainJob, Reads, IsUsageFault}
 use Rattle.report_text.specs.Reports.{action_names, cost_report, wcd_report}
 use Rattle.grd_program.specs.Errors.{error_text}
+use Rattle.grd_program.specs.Statuses.{IsPlainFault}
 use Rattle.grd_program.specs.Causes.{HasText, IsQuiet, OnlyRose, FailsDomain, FailsProblem, AreTyped, HasTypingCause, SpellsOnlyGoals, HasOnlyFault, HasFew, HasCountCause}
 
 -- the text is the report of the costs that were found and of a right wcd
@@ -201,11 +201,11 @@ abbrev pub HasTextsCause : (List ℕ → Told) → (List ℕ → Bool → ℕ) �
 HasTextsCause told before now job (Refused (TooLong Domain limit)) =
     (limit ≡ 2 ^ 20) × IsQuiet before now × IsLongerFile (told job.domain) limit
 HasTextsCause told before now job (Refused (Pddl Domain fault)) =
-    (fault ≢ PddlOutOfMemory) × IsQuiet before now × HasText (told job.domain) (FailsDomain fault)
+    IsPlainFault fault × IsQuiet before now × HasText (told job.domain) (FailsDomain fault)
 HasTextsCause told before now job (Refused (TooLong Problem limit)) =
     (limit ≡ 2 ^ 20) × IsQuiet before now × (d : PlainDomain) × TakesDomain told job.domain d × IsLongerFile (told job.problem) limit
 HasTextsCause told before now job (Refused (Pddl Problem fault)) =
-    (fault ≢ PddlOutOfMemory) × IsQuiet before now × (d : PlainDomain) × TakesDomain told job.domain d × HasText (told job.problem) (FailsProblem fault)
+    IsPlainFault fault × IsQuiet before now × (d : PlainDomain) × TakesDomain told job.domain d × HasText (told job.problem) (FailsProblem fault)
 HasTextsCause told before now job (ReadFailed Domain) = OnlyRose before now job.domain
 HasTextsCause told before now job (ReadFailed Problem) =
     ((d : PlainDomain) × TakesDomain told job.domain d) × OnlyRose before now job.problem

@@ -1,6 +1,6 @@
 ghost use Rattle.std.specs.Prelude.{◌≡◌, ◌++◌, IfOk, OnOk, string_bytes, codes};
 ghost use Rattle.std.specs.Fmt.{decimal};
-ghost use Rattle.grd_program.specs.Errors.{role_text, usage_text, goals_text, feature_text, place_text, tree_text, pddl_text, kind_text, typing_text, count_text, refusal_text, error_text, IsPlainRefusal, IsPlainStatus};
+ghost use Rattle.grd_program.specs.Errors.{role_text, usage_text, goals_text, feature_text, place_text, tree_text, pddl_text, kind_text, typing_text, count_text, refusal_text, error_text};
 
 use crate::status::{LimitFault, Refusal, Status, Target};
 use command_words::UsageFault;
@@ -21,7 +21,6 @@ pub(crate) const OUTPUT_FAILED: &[u8] = b"grd: output: write failed\n";
 
 /// The line that a status writes to the error stream, with its line feed. It is empty for Done.
 pub fn error_line(alloc: Global, status: &Status) -> Result<Vec<u8>, OutOfMemory>
-    requires { IsPlainStatus status.now }
     ensures { IfOk result (λ line. line.items ≡ error_text status.now) }
 {
     let mut line = String::new(alloc);
@@ -41,7 +40,6 @@ pub fn error_line(alloc: Global, status: &Status) -> Result<Vec<u8>, OutOfMemory
 
 /// Writes the line of a refused file.
 fn push_refusal(line: &mut String, refusal: &Refusal) -> Result<(), OutOfMemory>
-    requires { IsPlainRefusal refusal.now }
     ensures { OnOk result
         (string_bytes line.new ≡ string_bytes line.old ++
         (codes "grd: " ++ refusal_text refusal.now ++ codes "\n")) }
@@ -197,7 +195,6 @@ fn kind_name(kind: &TypeKind) -> &'static str
 
 /// Writes what a world has too many of.
 fn push_count(line: &mut String, fault: &GroundFault) -> Result<(), OutOfMemory>
-    requires { IsPlainRefusal (Refusal.Count fault.now) }
     ensures { OnOk result (string_bytes line.new ≡ string_bytes line.old ++ count_text fault.now) }
 {
     match fault {
@@ -210,7 +207,6 @@ fn push_count(line: &mut String, fault: &GroundFault) -> Result<(), OutOfMemory>
 
 /// Writes what is at fault in a goals file.
 fn push_goals(line: &mut String, fault: &GoalFault) -> Result<(), OutOfMemory>
-    requires { IsPlainRefusal (Refusal.Goals fault.now) }
     ensures { OnOk result
         (string_bytes line.new ≡ string_bytes line.old ++ (codes "goals: " ++ goals_text fault.now)) }
 {
@@ -219,7 +215,7 @@ fn push_goals(line: &mut String, fault: &GoalFault) -> Result<(), OutOfMemory>
         GoalFault::UnknownAtom(number) => write!(line, "goals: line {number}: unknown atom")?,
         GoalFault::NoGoal => line.push_str("goals: no goal")?,
         GoalFault::TooManyGoals(number) => write!(line, "goals: {number} goals, limit 32")?,
-        GoalFault::OutOfMemory => {}
+        GoalFault::OutOfMemory => line.push_str("goals: ")?,
     }
     Ok(())
 }

@@ -1,5 +1,5 @@
 ghost use Rattle.std.specs.Prelude.{◌≡◌, ◌⊎◌, ℕ, List, Bool, map, string_bytes};
-ghost use Rattle.grd_program.specs.Errors.{IsPlainStatus};
+ghost use Rattle.grd_program.specs.Statuses.{IsPlainStatus};
 ghost use Rattle.grd_program.specs.Runs.{HasWritten, HasWarned, HasCause, IsComplete, GrowsBy, MayBecome};
 
 use crate::answer::answer;
@@ -26,6 +26,7 @@ pub fn run<F: Shelf, O: Sink, E: Sink>(
         (map string_bytes words.now) (O.faults out.old) (O.faults out.new) result }
     ensures complete { IsComplete (F.told shelf.old) (F.faults shelf.old) (F.faults shelf.new)
         (map string_bytes words.now) (O.faults out.old) (O.faults out.new) result }
+    ensures plain { IsPlainStatus result }
     ensures files_stay { (x : List ℕ) → F.told shelf.new x ≡ F.told shelf.old x }
 {
     let status = print_answer(alloc, words, shelf, out);
@@ -43,7 +44,6 @@ fn print_answer<F: Shelf, O: Sink>(
         (O.written out.new) result }
     ensures cause { HasCause (F.told shelf.old) (F.faults shelf.old) (F.faults shelf.new)
         (map string_bytes words.now) (O.faults out.old) (O.faults out.new) result }
-    ensures plain { IsPlainStatus result }
     ensures files_stay { (x : List ℕ) → F.told shelf.new x ≡ F.told shelf.old x }
 {
     let text = match answer(alloc, words, shelf) {
@@ -58,7 +58,6 @@ fn print_answer<F: Shelf, O: Sink>(
 
 /// Writes the line of a status. Where the line can't be made for want of memory, the status is that.
 fn warn<E: Sink>(alloc: Global, status: Status, err: &mut E) -> Status
-    requires { IsPlainStatus status }
     ensures kept { MayBecome status result }
     ensures warned { HasWarned (E.written err.old) (E.written err.new) (E.faults err.old)
         (E.faults err.new) result }
@@ -79,7 +78,6 @@ fn warn<E: Sink>(alloc: Global, status: Status, err: &mut E) -> Status
 
 /// Writes the line of a status that takes memory.
 fn warn_of<E: Sink>(alloc: Global, status: Status, err: &mut E) -> Status
-    requires { IsPlainStatus status }
     ensures kept { (result ≡ status) ⊎ (result ≡ Status.OutOfMemory) }
     ensures warned { HasWarned (E.written err.old) (E.written err.new) (E.faults err.old)
         (E.faults err.new) result }

@@ -41,7 +41,16 @@ fn canonical_text(alloc: Global, domain: &Domain, problem: &Problem) -> Result<V
         (λ text. text.items ≡ domain_text domain.now ++ problem_text problem.now) }
 {
     let mut text = print_domain(alloc, domain)?;
+    push_problem(alloc, &mut text, problem)?;
+    Ok(text)
+}
+
+/// Writes the canonical text of a problem.
+fn push_problem(alloc: Global, text: &mut Vec<u8>, problem: &Problem) -> Result<(), OutOfMemory>
+    requires { IsSpelledProblem problem.now }
+    ensures { OnOk result (text.new.items ≡ text.old.items ++ problem_text problem.now) }
+{
     let problem_text = print_problem(alloc, problem)?;
     text.extend_from_slice(&problem_text)?;
-    Ok(text)
+    Ok(())
 }

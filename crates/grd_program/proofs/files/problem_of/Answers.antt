@@ -4,7 +4,7 @@ use Rattle.pddl_reader.specs.Spelling.{IsProblemText}
 use Rattle.pddl_reader.specs.Faults.{IsProblemFault}
 use Rattle.grd_program.specs.Causes.{HasProblemCause, FailsProblem}
 use Rattle.grd_program.specs.Runs.{SpellsOnly}
-use Rattle.grd_program.proofs.FileLemmas.{has, only_value, only_fault, no_value, plain_fault, pddl_cause}
+use Rattle.grd_program.proofs.FileLemmas.{has, only_value, only_fault, no_value, plain_fault, plain_text, pddl_cause}
 use Rattle.grd_program.proofs.files.problem_of.Goals as goal
 
 pub returns-in-Ok-clause-spelled : goal.returns-in-Ok-clause-spelled
@@ -28,12 +28,12 @@ returns-clause-cause g c =
     let fault = c.in-Err.fault in
     pddl_cause (HasProblemCause (g.F.Shelf.told c.args.shelf.now c.args.name.now) (g.F.Shelf.faults c.args.shelf.now) (g.F.Shelf.faults c.text_of.new.shelf) c.args.name.now)
     Problem fault c.pddl_status.result c.pddl_status.ensures.memory c.pddl_status.ensures.refused tt
-    (λ plain. (
-      plain,
+    (λ plain. let fails : IsProblemFault c.deref.result.now fault = plain_fault (IsProblemFault c.deref.result.now) fault (c.read_problem.ensures.fault fault c.in-Err.is) plain in (
+      plain_text (IsProblemFault c.deref.result.now) (λ h. h) (λ tree h. h.0) fault fails,
       c.in_ok-text.ensures.quiet,
       has _ c.in_ok-text.text.items (FailsProblem fault) c.in_ok-text.ensures.whole c.in_ok-text.ensures.short
           (subst (FailsProblem fault) c.deref.ensures.value (record {
-            has = plain_fault (IsProblemFault c.deref.result.now) fault (c.read_problem.ensures.fault fault c.in-Err.is) plain;
+            has = fails;
             only = only_fault (IsProblemFault c.deref.result.now) c.read_problem.result c.read_problem.ensures.fault_exactly fault c.in-Err.is plain;
             no_problem = no_value (IsProblemText c.deref.result.now) c.read_problem.result c.read_problem.ensures.exactly fault c.in-Err.is plain;
           })),
