@@ -25,16 +25,23 @@ fn expect_world(
     expect_run(rt, alloc, COST, texts, wanted)
 }
 
+/// Domains, numbers of objects, the exit status, and what is printed and told.
+const WORLDS: &[(&str, u32, u8, &str, &str)] = &[
+    (PAIRS, 55, 0, "goals 1\ngoal 1 cost 0\n", ""),
+    (PAIRS, 56, 1, "", "grd: 3136 atoms, limit 3072\n"),
+    (TRIPLES, 101, 0, "goals 1\ngoal 1 cost 0\n", ""),
+    (TRIPLES, 102, 1, "", "grd: 1061208 actions, limit 1048576\n"),
+];
+
 #[test]
 fn worlds_are_refused_by_their_counts(rt: HostRuntime) -> Result<(), Fail> {
-    for (domain, count, code, out, err) in [
-        (PAIRS, 55, 0, "goals 1\ngoal 1 cost 0\n", ""),
-        (PAIRS, 56, 1, "", "grd: 3136 atoms, limit 3072\n"),
-        (TRIPLES, 101, 0, "goals 1\ngoal 1 cost 0\n", ""),
-        (TRIPLES, 102, 1, "", "grd: 1061208 actions, limit 1048576\n"),
-    ] {
-        let wanted = Wanted { code, out, err };
-        expect_world(&rt, rt.alloc(), domain, count, wanted)?;
+    for (domain, count, code, out, err) in WORLDS {
+        let wanted = Wanted {
+            code: *code,
+            out,
+            err,
+        };
+        expect_world(&rt, rt.alloc(), domain, *count, wanted)?;
     }
     Ok(())
 }
@@ -85,40 +92,51 @@ const FORK_SHOWN: &str = "(define (domain fork)
 (:goal (and)))
 ";
 
+const MOST: usize = 1 << 20;
+
+const MORE: usize = (1 << 20) + 1;
+
+const ONE_STEP: &str = "goals 1\ngoal 1 cost 1 (a)\n";
+
+/// Words, the bytes of the domain's and the goals' file, the exit status, and what is printed and told.
+const SIZES: &[(&str, usize, usize, u8, &str, &str)] = &[
+    (COST, MOST, MOST, 0, ONE_STEP, ""),
+    (SHOW, MOST, MOST, 0, FORK_SHOWN, ""),
+    (
+        COST,
+        0,
+        MORE,
+        1,
+        "",
+        "grd: goals: longer than 1048576 bytes\n",
+    ),
+    (
+        COST,
+        MORE,
+        MORE,
+        1,
+        "",
+        "grd: domain: longer than 1048576 bytes\n",
+    ),
+    (
+        SHOW,
+        MORE,
+        MORE,
+        1,
+        "",
+        "grd: domain: longer than 1048576 bytes\n",
+    ),
+];
+
 #[test]
 fn files_have_at_most_2_to_the_20_bytes(rt: HostRuntime) -> Result<(), Fail> {
-    let (most, more) = (1usize << 20, (1usize << 20) + 1);
-    let cost = "goals 1\ngoal 1 cost 1 (a)\n";
-    for (words, domain_bytes, goals_bytes, code, out, err) in [
-        (COST, most, most, 0, cost, ""),
-        (SHOW, most, most, 0, FORK_SHOWN, ""),
-        (
-            COST,
-            0,
-            more,
-            1,
-            "",
-            "grd: goals: longer than 1048576 bytes\n",
-        ),
-        (
-            COST,
-            more,
-            more,
-            1,
-            "",
-            "grd: domain: longer than 1048576 bytes\n",
-        ),
-        (
-            SHOW,
-            more,
-            more,
-            1,
-            "",
-            "grd: domain: longer than 1048576 bytes\n",
-        ),
-    ] {
-        let wanted = Wanted { code, out, err };
-        expect_padded(&rt, rt.alloc(), words, domain_bytes, goals_bytes, wanted)?;
+    for (words, domain_bytes, goals_bytes, code, out, err) in SIZES {
+        let wanted = Wanted {
+            code: *code,
+            out,
+            err,
+        };
+        expect_padded(&rt, rt.alloc(), words, *domain_bytes, *goals_bytes, wanted)?;
     }
     Ok(())
 }
@@ -145,37 +163,40 @@ fn expect_end(
     Ok(())
 }
 
+/// Commands, goals over fork, limits on states, the exit status, and what is told.
+const STATES: &[(&str, &str, u32, u8, &str)] = &[
+    (
+        "cost",
+        "(atl)",
+        1,
+        4,
+        "grd: limit: more than 1 states near goal 1\n",
+    ),
+    (
+        "cost",
+        "(at0)\n(atl)",
+        1,
+        4,
+        "grd: limit: more than 1 states near goal 2\n",
+    ),
+    ("cost", "(at0)\n(atl)", 5, 0, ""),
+    // No state but the first has a level for both atoms.
+    ("cost", "(at0), (atl)\n(at0)", 1, 0, ""),
+    ("wcd", "(at0)\n(atl)", 5, 0, ""),
+    // Five states are within the three steps of its plan, and `cost` finds it with fewer.
+    (
+        "wcd",
+        "(at0)\n(atl)",
+        4,
+        4,
+        "grd: limit: more than 4 states near goal 2\n",
+    ),
+];
+
 #[test]
 fn goal_that_meets_the_limit_is_told(rt: HostRuntime) -> Result<(), Fail> {
-    for (command, goals, states, code, line) in [
-        (
-            "cost",
-            "(atl)",
-            1,
-            4,
-            "grd: limit: more than 1 states near goal 1\n",
-        ),
-        (
-            "cost",
-            "(at0)\n(atl)",
-            1,
-            4,
-            "grd: limit: more than 1 states near goal 2\n",
-        ),
-        ("cost", "(at0)\n(atl)", 5, 0, ""),
-        // No state but the first has a level for both atoms.
-        ("cost", "(at0), (atl)\n(at0)", 1, 0, ""),
-        ("wcd", "(at0)\n(atl)", 5, 0, ""),
-        // Five states are within the three steps of its plan, and `cost` finds it with fewer.
-        (
-            "wcd",
-            "(at0)\n(atl)",
-            4,
-            4,
-            "grd: limit: more than 4 states near goal 2\n",
-        ),
-    ] {
-        expect_end(&rt, rt.alloc(), command, goals, states, code, line)?;
+    for (command, goals, states, code, line) in STATES {
+        expect_end(&rt, rt.alloc(), command, goals, *states, *code, line)?;
     }
     Ok(())
 }

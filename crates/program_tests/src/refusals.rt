@@ -8,23 +8,25 @@ use std::alloc::Global;
 use std::process::Abort;
 use std::test::Fail;
 
+/// Goals files over fork that are at fault, and what is told.
+const FAULTY_GOALS: &[(&str, &str)] = &[
+    ("(atq)", "grd: goals: line 1: unknown atom\n"),
+    ("(at0 at1)", "grd: goals: line 1: unknown atom\n"),
+    (
+        "(atl)\r\n(atr)\r\n(atl), (atq)\r\n(atl",
+        "grd: goals: line 3: unknown atom\n",
+    ),
+    ("\n ; (atl\n(atl", "grd: goals: line 3: shape\n"),
+    ("(atl) ; behind an atom", "grd: goals: line 1: shape\n"),
+    ("(atl)\n(not (atr))\n(atq)\n", "grd: goals: line 2: shape\n"),
+    ("", "grd: goals: no goal\n"),
+    (" ,\t\n;(atl)\n", "grd: goals: no goal\n"),
+];
+
 #[test]
 fn faulty_goals_files_are_told(rt: HostRuntime) -> Result<(), Fail> {
-    for (goals, fault) in [
-        ("(atq)", "line 1: unknown atom"),
-        ("(at0 at1)", "line 1: unknown atom"),
-        (
-            "(atl)\r\n(atr)\r\n(atl), (atq)\r\n(atl",
-            "line 3: unknown atom",
-        ),
-        ("\n ; (atl\n(atl", "line 3: shape"),
-        ("(atl) ; behind an atom", "line 1: shape"),
-        ("(atl)\n(not (atr))\n(atq)\n", "line 2: shape"),
-        ("", "no goal"),
-        (" ,\t\n;(atl)\n", "no goal"),
-    ] {
-        let line = format!(in rt.alloc(); "grd: goals: {fault}\n")?;
-        expect_run(&rt, rt.alloc(), WCD, fork(goals), ends(1, line.as_str()))?;
+    for (goals, line) in FAULTY_GOALS {
+        expect_run(&rt, rt.alloc(), WCD, fork(goals), ends(1, line))?;
     }
     Ok(())
 }
@@ -67,44 +69,52 @@ fn expect_faults(
     Ok(())
 }
 
+/// Domains and problems, of which one is at fault, and what is told.
+const FAULTY_FILES: &[(&str, &str, &str)] = &[
+    ("", FORK_START, "grd: domain: empty\n"),
+    ("(define (domain d)", "", "grd: domain: byte 0: unclosed\n"),
+    (
+        "(define (domain d) (:action a :effect (increase (total-cost) 1)))",
+        FORK_START,
+        "grd: domain: byte 38: unsupported numeric effect\n",
+    ),
+    (ILL_TYPED, "; (define", "grd: problem: empty\n"),
+    (ILL_TYPED, ")", "grd: problem: byte 0: unopened\n"),
+    (
+        FORK,
+        "(define (problem \u{e9}))",
+        "grd: problem: byte 17: bad byte\n",
+    ),
+    (
+        FORK,
+        "(define (problem p)) (",
+        "grd: problem: byte 21: trailing\n",
+    ),
+    (
+        FORK,
+        "(define (problem p) (:domain fork))",
+        "grd: problem: byte 0: shape\n",
+    ),
+    (
+        FORK,
+        "(define (problem p) (:domain fork) (:init) (:init))",
+        "grd: problem: byte 43: doubled section\n",
+    ),
+];
+
 #[test]
 fn faulty_files_are_told_by_their_places(rt: HostRuntime) -> Result<(), Fail> {
-    let deep = padded(rt.alloc(), "", '(', 65)?;
-    for (domain, problem, line) in [
-        ("", FORK_START, "grd: domain: empty\n"),
-        (deep.as_str(), "", "grd: domain: byte 64: too deep\n"),
-        ("(define (domain d)", "", "grd: domain: byte 0: unclosed\n"),
-        (
-            "(define (domain d) (:action a :effect (increase (total-cost) 1)))",
-            FORK_START,
-            "grd: domain: byte 38: unsupported numeric effect\n",
-        ),
-        (ILL_TYPED, "; (define", "grd: problem: empty\n"),
-        (ILL_TYPED, ")", "grd: problem: byte 0: unopened\n"),
-        (
-            FORK,
-            "(define (problem \u{e9}))",
-            "grd: problem: byte 17: bad byte\n",
-        ),
-        (
-            FORK,
-            "(define (problem p)) (",
-            "grd: problem: byte 21: trailing\n",
-        ),
-        (
-            FORK,
-            "(define (problem p) (:domain fork))",
-            "grd: problem: byte 0: shape\n",
-        ),
-        (
-            FORK,
-            "(define (problem p) (:domain fork) (:init) (:init))",
-            "grd: problem: byte 43: doubled section\n",
-        ),
-    ] {
+    for (domain, problem, line) in FAULTY_FILES {
         expect_faults(&rt, rt.alloc(), domain, problem, line)?;
     }
     Ok(())
+}
+
+#[test]
+fn brackets_that_are_too_deep_are_told(rt: HostRuntime) -> Result<(), Fail> {
+    let deep = padded(rt.alloc(), "", '(', 65)?;
+    let line = "grd: domain: byte 64: too deep\n";
+    expect_faults(&rt, rt.alloc(), deep.as_str(), "", line)
 }
 
 /// A domain, a problem, and what is told of them.
@@ -137,74 +147,102 @@ fn broken_rules_of_typing_are_told(rt: HostRuntime) -> Result<(), Fail> {
     Ok(())
 }
 
-#[test]
-fn too_many_literals_and_objects_are_told(rt: HostRuntime) -> Result<(), Fail> {
-    let literals = repeated(rt.alloc(), " (q)", 65)?;
-    let domain = format!(in rt.alloc();
+/// What is told of a domain over 1,025 objects.
+fn expect_fault_of_many(
+    rt: &impl Abort,
+    alloc: Global,
+    domain: &str,
+    line: &str,
+) -> Result<(), Fail> {
+    let problem = many_objects(alloc, 1025)?;
+    expect_fault(rt, alloc, COST, domain, problem.as_str(), line)
+}
+
+/// A domain whose action has 65 literals.
+fn many_literals(alloc: Global) -> Result<String, Fail> {
+    let literals = repeated(alloc, " (q)", 65)?;
+    Ok(format!(in alloc;
         "(define (domain many) (:predicates (q)) (:action a :effect (and{literals})))"
-    )?;
-    let problem = many_objects(rt.alloc(), 1025)?;
-    for (domain, line) in [
-        (domain.as_str(), "grd: domain: byte 49: too many literals\n"),
-        (PAIRS, "grd: problem: byte 5079: too many objects\n"),
-    ] {
-        expect_fault(&rt, rt.alloc(), COST, domain, problem.as_str(), line)?;
-    }
-    Ok(())
+    )?)
+}
+
+#[test]
+fn too_many_literals_are_told(rt: HostRuntime) -> Result<(), Fail> {
+    let domain = many_literals(rt.alloc())?;
+    let line = "grd: domain: byte 49: too many literals\n";
+    expect_fault_of_many(&rt, rt.alloc(), domain.as_str(), line)
+}
+
+#[test]
+fn too_many_objects_are_told(rt: HostRuntime) -> Result<(), Fail> {
+    let line = "grd: problem: byte 5079: too many objects\n";
+    expect_fault_of_many(&rt, rt.alloc(), PAIRS, line)
 }
 
 /// The words of `cost` with the least limit.
 const NARROW: &str = "cost --domain d --problem p --goals g --max-states 1";
 
-// What comes first is told, where all that comes later is at fault too.
-#[test]
-fn first_of_all_faults_is_told(rt: HostRuntime) -> Result<(), Fail> {
-    let objects = many_objects(rt.alloc(), 102)?;
-    let large = objects.as_str();
+/// What is told first, where the output fails as well and the limit on states is the least.
+fn expect_first(
+    rt: &impl Abort,
+    alloc: Global,
+    texts: Texts<'_>,
+    code: u8,
+    line: &str,
+) -> Result<(), Fail> {
     let failing = Failing {
         out: 1,
         ..NO_FAILURE
     };
-    for (domain, problem, goals, code, line) in [
-        ("(", "(", "(", 1, "grd: domain: byte 0: unclosed\n"),
-        (ILL_TYPED, "(", "(", 1, "grd: problem: byte 0: unclosed\n"),
-        (
-            ILL_TYPED,
-            large,
-            "(",
-            1,
-            "grd: domain: byte 38: unknown type\n",
-        ),
-        (LARGE, large, "(", 1, "grd: goals: line 1: shape\n"),
-        (
-            LARGE,
-            large,
-            "(p o0 o1)",
-            1,
-            "grd: 10404 atoms, limit 3072\n",
-        ),
-        (
-            TRIPLES,
-            large,
-            "(p)",
-            1,
-            "grd: 1061208 actions, limit 1048576\n",
-        ),
-        (
-            FORK,
-            FORK_START,
-            "(atl)",
-            4,
-            "grd: limit: more than 1 states near goal 1\n",
-        ),
-        (FORK, FORK_START, "(at0)", 6, "grd: output: write failed\n"),
-    ] {
+    expect_failing(rt, alloc, NARROW, texts, failing, ends(code, line))
+}
+
+/// Domains, problems and goals, the exit status and what is told. What comes first is told, where all that
+/// comes later is at fault too.
+const FIRST_FAULTS: &[(&str, &str, &str, u8, &str)] = &[
+    ("(", "(", "(", 1, "grd: domain: byte 0: unclosed\n"),
+    (ILL_TYPED, "(", "(", 1, "grd: problem: byte 0: unclosed\n"),
+    (
+        FORK,
+        FORK_START,
+        "(atl)",
+        4,
+        "grd: limit: more than 1 states near goal 1\n",
+    ),
+    (FORK, FORK_START, "(at0)", 6, "grd: output: write failed\n"),
+];
+
+#[test]
+fn first_of_all_faults_is_told(rt: HostRuntime) -> Result<(), Fail> {
+    for (domain, problem, goals, code, line) in FIRST_FAULTS {
         let texts = Texts {
             domain,
             problem,
             goals,
         };
-        expect_failing(&rt, rt.alloc(), NARROW, texts, failing, ends(code, line))?;
+        expect_first(&rt, rt.alloc(), texts, *code, line)?;
+    }
+    Ok(())
+}
+
+/// The same over 102 objects.
+const FIRST_FAULTS_OF_MANY: &[(&str, &str, &str)] = &[
+    (ILL_TYPED, "(", "grd: domain: byte 38: unknown type\n"),
+    (LARGE, "(", "grd: goals: line 1: shape\n"),
+    (LARGE, "(p o0 o1)", "grd: 10404 atoms, limit 3072\n"),
+    (TRIPLES, "(p)", "grd: 1061208 actions, limit 1048576\n"),
+];
+
+#[test]
+fn first_of_all_faults_over_many_objects_is_told(rt: HostRuntime) -> Result<(), Fail> {
+    let problem = many_objects(rt.alloc(), 102)?;
+    for (domain, goals, line) in FIRST_FAULTS_OF_MANY {
+        let texts = Texts {
+            domain,
+            problem: problem.as_str(),
+            goals,
+        };
+        expect_first(&rt, rt.alloc(), texts, 1, line)?;
     }
     Ok(())
 }

@@ -8,47 +8,50 @@ use crate::samples::{
 use std::alloc::Global;
 use std::test::Fail;
 
+/// Domains, problems and goals, and their reports.
+const COSTS: &[(&str, &str, &str, &str)] = &[
+    (
+        FORK,
+        FORK_START,
+        "(atl)",
+        "goals 1\ngoal 1 cost 3 (a) (b) (l)\n",
+    ),
+    (
+        FORK,
+        FORK_START,
+        "(atl)\n(at0), (atl)",
+        "goals 2\ngoal 1 cost 3 (a) (b) (l)\ngoal 2 cost none\n",
+    ),
+    (
+        FORK,
+        FORK_START,
+        "(atr)\n; at the start\n(AT0)\r\n\r\n(at0), (atl)\n(at2)",
+        "goals 4\ngoal 1 cost 3 (a) (b) (r)\ngoal 2 cost 0\ngoal 3 cost none\ngoal 4 cost 2 (a) (b)\n",
+    ),
+    (KEEP, KEEP_START, "(p), (q)", "goals 1\ngoal 1 cost 1 (t)\n"),
+    (
+        LADDER,
+        LADDER_START,
+        "(high)",
+        "goals 1\ngoal 1 cost 1 (jump)\n",
+    ),
+    (
+        DOORS,
+        DOORS_START,
+        "(inside)(inside)\n(open) (inside)\n(shut) (inside)",
+        "goals 3\ngoal 1 cost 1 (enter)\ngoal 2 cost 1 (enter)\ngoal 3 cost none\n",
+    ),
+    (
+        LOOSE,
+        LOOSE_START,
+        "(high)\n(high)(middle)",
+        "goals 2\ngoal 1 cost 2 (start) (top)\ngoal 2 cost 3 (start) (top) (start)\n",
+    ),
+];
+
 #[test]
 fn costs_and_plans_are_printed(rt: HostRuntime) -> Result<(), Fail> {
-    for (domain, problem, goals, report) in [
-        (
-            FORK,
-            FORK_START,
-            "(atl)",
-            "goals 1\ngoal 1 cost 3 (a) (b) (l)\n",
-        ),
-        (
-            FORK,
-            FORK_START,
-            "(atl)\n(at0), (atl)",
-            "goals 2\ngoal 1 cost 3 (a) (b) (l)\ngoal 2 cost none\n",
-        ),
-        (
-            FORK,
-            FORK_START,
-            "(atr)\n; at the start\n(AT0)\r\n\r\n(at0), (atl)\n(at2)",
-            "goals 4\ngoal 1 cost 3 (a) (b) (r)\ngoal 2 cost 0\ngoal 3 cost none\ngoal 4 cost 2 (a) (b)\n",
-        ),
-        (KEEP, KEEP_START, "(p), (q)", "goals 1\ngoal 1 cost 1 (t)\n"),
-        (
-            LADDER,
-            LADDER_START,
-            "(high)",
-            "goals 1\ngoal 1 cost 1 (jump)\n",
-        ),
-        (
-            DOORS,
-            DOORS_START,
-            "(inside)(inside)\n(open) (inside)\n(shut) (inside)",
-            "goals 3\ngoal 1 cost 1 (enter)\ngoal 2 cost 1 (enter)\ngoal 3 cost none\n",
-        ),
-        (
-            LOOSE,
-            LOOSE_START,
-            "(high)\n(high)(middle)",
-            "goals 2\ngoal 1 cost 2 (start) (top)\ngoal 2 cost 3 (start) (top) (start)\n",
-        ),
-    ] {
+    for (domain, problem, goals, report) in COSTS {
         let texts = Texts {
             domain,
             problem,
@@ -77,35 +80,38 @@ fn costs_over_a_grid_are_printed(rt: HostRuntime) -> Result<(), Fail> {
     Ok(())
 }
 
+/// Goals over fork, and their reports.
+const COMMON: &[(&str, &str)] = &[
+    (
+        "(atl)\n(atr)\n",
+        "goals 2\ngoal 1 cost 3 (a) (b) (l)\ngoal 2 cost 3 (a) (b) (r)\n\
+        wcd 2 goals 1 2\nprefix (a) (b)\nplan 1 (a) (b) (l)\nplan 2 (a) (b) (r)\n",
+    ),
+    (
+        "(atl)\n(atl)\n",
+        "goals 2\ngoal 1 cost 3 (a) (b) (l)\ngoal 2 cost 3 (a) (b) (l)\n\
+        wcd 3 goals 1 2\nprefix (a) (b) (l)\nplan 1 (a) (b) (l)\nplan 2 (a) (b) (l)\n",
+    ),
+    (
+        "(at0)\n(atl)\n",
+        "goals 2\ngoal 1 cost 0\ngoal 2 cost 3 (a) (b) (l)\n\
+        wcd 0 goals 1 2\nprefix\nplan 1\nplan 2 (a) (b) (l)\n",
+    ),
+    (
+        "(atl)\n(at0), (atl)\n",
+        "goals 2\ngoal 1 cost 3 (a) (b) (l)\ngoal 2 cost none\nwcd none\n",
+    ),
+    ("(at1)\n", "goals 1\ngoal 1 cost 1 (a)\nwcd none\n"),
+    (
+        "(at0)\n(atl)\n(atr)\n",
+        "goals 3\ngoal 1 cost 0\ngoal 2 cost 3 (a) (b) (l)\ngoal 3 cost 3 (a) (b) (r)\n\
+        wcd 2 goals 2 3\nprefix (a) (b)\nplan 2 (a) (b) (l)\nplan 3 (a) (b) (r)\n",
+    ),
+];
+
 #[test]
 fn longest_common_sequences_are_printed(rt: HostRuntime) -> Result<(), Fail> {
-    for (goals, report) in [
-        (
-            "(atl)\n(atr)\n",
-            "goals 2\ngoal 1 cost 3 (a) (b) (l)\ngoal 2 cost 3 (a) (b) (r)\n\
-            wcd 2 goals 1 2\nprefix (a) (b)\nplan 1 (a) (b) (l)\nplan 2 (a) (b) (r)\n",
-        ),
-        (
-            "(atl)\n(atl)\n",
-            "goals 2\ngoal 1 cost 3 (a) (b) (l)\ngoal 2 cost 3 (a) (b) (l)\n\
-            wcd 3 goals 1 2\nprefix (a) (b) (l)\nplan 1 (a) (b) (l)\nplan 2 (a) (b) (l)\n",
-        ),
-        (
-            "(at0)\n(atl)\n",
-            "goals 2\ngoal 1 cost 0\ngoal 2 cost 3 (a) (b) (l)\n\
-            wcd 0 goals 1 2\nprefix\nplan 1\nplan 2 (a) (b) (l)\n",
-        ),
-        (
-            "(atl)\n(at0), (atl)\n",
-            "goals 2\ngoal 1 cost 3 (a) (b) (l)\ngoal 2 cost none\nwcd none\n",
-        ),
-        ("(at1)\n", "goals 1\ngoal 1 cost 1 (a)\nwcd none\n"),
-        (
-            "(at0)\n(atl)\n(atr)\n",
-            "goals 3\ngoal 1 cost 0\ngoal 2 cost 3 (a) (b) (l)\ngoal 3 cost 3 (a) (b) (r)\n\
-            wcd 2 goals 2 3\nprefix (a) (b)\nplan 2 (a) (b) (l)\nplan 3 (a) (b) (r)\n",
-        ),
-    ] {
+    for (goals, report) in COMMON {
         expect_run(&rt, rt.alloc(), WCD, fork(goals), done(report))?;
     }
     Ok(())

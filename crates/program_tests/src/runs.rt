@@ -55,7 +55,8 @@ pub(crate) struct Outcome {
 
 /// One word more.
 fn push_word(alloc: Global, words: &mut Vec<String>, word: &str) -> Result<(), AllocError> {
-    words.push(String::from_str(alloc, word)?)?;
+    let word = String::from_str(alloc, word)?;
+    words.push(word)?;
     Ok(())
 }
 

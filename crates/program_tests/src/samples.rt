@@ -88,6 +88,22 @@ pub(crate) const GRID: &str = "(define (domain grid)
 /// The rows of the grid, and its columns.
 const SIDE: u32 = 5;
 
+/// Writes a cell, behind a space.
+fn push_cell(text: &mut String, row: u32, column: u32) -> Result<(), Fail> {
+    write!(text, " c{row}")?;
+    write!(text, "-{column}")?;
+    Ok(())
+}
+
+/// Writes that a step leads from a cell to another.
+fn push_link(text: &mut String, from: (u32, u32), to: (u32, u32)) -> Result<(), Fail> {
+    text.push_str(" (connected")?;
+    push_cell(text, from.0, from.1)?;
+    push_cell(text, to.0, to.1)?;
+    text.push_str(")")?;
+    Ok(())
+}
+
 /// Writes the neighbours of a cell: above, below, left and right.
 fn push_neighbours(text: &mut String, row: u32, column: u32) -> Result<(), Fail> {
     for (to_row, to_column) in [
@@ -97,7 +113,7 @@ fn push_neighbours(text: &mut String, row: u32, column: u32) -> Result<(), Fail>
         (row, column.saturating_add(1)),
     ] {
         if 1 <= to_row && to_row <= SIDE && 1 <= to_column && to_column <= SIDE {
-            write!(text, " (connected c{row}-{column} c{to_row}-{to_column})")?;
+            push_link(text, (row, column), (to_row, to_column))?;
         }
     }
     Ok(())
@@ -109,7 +125,8 @@ pub(crate) fn grid_start(alloc: Global) -> Result<String, Fail> {
     let mut init = String::from_str(alloc, "(at c3-1)")?;
     for row in 1..SIDE + 1 {
         for column in 1..SIDE + 1 {
-            write!(cells, " c{row}-{column} - cell")?;
+            push_cell(&mut cells, row, column)?;
+            cells.push_str(" - cell")?;
             push_neighbours(&mut init, row, column)?;
         }
     }

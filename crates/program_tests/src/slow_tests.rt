@@ -59,6 +59,15 @@ fn random_task(seed: &mut u64) -> SmallTask {
     }
 }
 
+/// Writes a text between two others, behind a space.
+fn push_between(text: &mut String, before: &str, name: &str, behind: &str) -> Result<(), Fail> {
+    text.push_str(" ")?;
+    text.push_str(before)?;
+    text.push_str(name)?;
+    text.push_str(behind)?;
+    Ok(())
+}
+
 /// Writes the texts whose bits are set.
 fn put_set(
     text: &mut String,
@@ -69,7 +78,7 @@ fn put_set(
 ) -> Result<(), Fail> {
     for at in 0..4 {
         if bits >> at as u32 & 1 == 1 {
-            write!(text, " {before}{}{behind}", names[at])?;
+            push_between(text, before, names[at], behind)?;
         }
     }
     Ok(())
@@ -159,26 +168,39 @@ fn distances(task: &SmallTask, goal: u32) -> [u32; 16] {
     distances
 }
 
+/// The states to which one step leads from one of these.
+fn all_successors(task: &SmallTask, states: u32) -> u32 {
+    let mut next = 0;
+    for state in 0..16u32 {
+        if states >> state & 1 == 1 {
+            next |= successors(task, state);
+        }
+    }
+    next
+}
+
+/// Those of the states that after so many steps are as near to a goal of these distances as its cost allows.
+fn near_states(states: u32, distances: &[u32; 16], start: u32, depth: u32) -> u32 {
+    let cost = distances[start as usize % 16];
+    let mut near = 0;
+    for state in 0..16 {
+        if distances[state].saturating_add(depth) == cost {
+            near |= 1u32 << state as u32;
+        }
+    }
+    states & near
+}
+
 /// The greatest number of steps after which both goals are still as near as their costs allow.
 fn slow_wcd(task: &SmallTask, first: &[u32; 16], second: &[u32; 16]) -> u32 {
-    let start = task.start as usize % 16;
-    let mut reached = 1u32 << start as u32;
+    let mut reached = 1u32 << (task.start % 16);
     let mut most = 0;
     for depth in 0..17u32 {
-        let mut next = 0;
-        for state in 0..16 {
-            if reached >> state as u32 & 1 == 1 {
-                let left = (
-                    first[state].saturating_add(depth),
-                    second[state].saturating_add(depth),
-                );
-                if left == (first[start], second[start]) {
-                    most = depth;
-                }
-                next |= successors(task, state as u32);
-            }
+        let near = near_states(reached, first, task.start, depth);
+        if near_states(near, second, task.start, depth) != 0 {
+            most = depth;
         }
-        reached = next;
+        reached = all_successors(task, reached);
     }
     most
 }

@@ -1,7 +1,7 @@
 // The words of the program: which fault of them is told, and in which forms they are taken.
 use crate::runs::{done, ends, expect_run, expect_without_files, words_of};
 use crate::samples::{COST, fork};
-use command_words::{Command, read_words};
+use command_words::{Command, Job, read_words};
 use std::alloc::Global;
 use std::process::Abort;
 use std::test::Fail;
@@ -71,27 +71,32 @@ fn expect_number(
     expect_without_files(rt, alloc, words.as_str(), ends(code, line))
 }
 
+const REFUSED: &str = "grd: usage: number --max-states\n";
+
+const TAKEN: &str = "grd: domain: read failed\n";
+
+/// Limits on states, the exit status, and what is told.
+const NUMBERS: &[(&str, u8, &str)] = &[
+    ("0", 2, REFUSED),
+    ("200001", 2, REFUSED),
+    ("00000000001", 2, REFUSED),
+    ("12345678901", 2, REFUSED),
+    ("18446744073709551617", 2, REFUSED),
+    ("1x", 2, REFUSED),
+    ("+1", 2, REFUSED),
+    ("1_000", 2, REFUSED),
+    ("0x1", 2, REFUSED),
+    ("1.0", 2, REFUSED),
+    ("1", 5, TAKEN),
+    ("200000", 5, TAKEN),
+    ("0000000001", 5, TAKEN),
+    ("0000200000", 5, TAKEN),
+];
+
 #[test]
 fn numbers_are_1_to_10_digits_in_their_range(rt: HostRuntime) -> Result<(), Fail> {
-    let refused = "grd: usage: number --max-states\n";
-    let taken = "grd: domain: read failed\n";
-    for (number, code, line) in [
-        ("0", 2, refused),
-        ("200001", 2, refused),
-        ("00000000001", 2, refused),
-        ("12345678901", 2, refused),
-        ("18446744073709551617", 2, refused),
-        ("1x", 2, refused),
-        ("+1", 2, refused),
-        ("1_000", 2, refused),
-        ("0x1", 2, refused),
-        ("1.0", 2, refused),
-        ("1", 5, taken),
-        ("200000", 5, taken),
-        ("0000000001", 5, taken),
-        ("0000200000", 5, taken),
-    ] {
-        expect_number(&rt, rt.alloc(), number, code, line)?;
+    for (number, code, line) in NUMBERS {
+        expect_number(&rt, rt.alloc(), number, *code, line)?;
     }
     Ok(())
 }
@@ -121,37 +126,69 @@ fn items_in_any_order_and_form_name_files(rt: HostRuntime) -> Result<(), Fail> {
     Ok(())
 }
 
-/// The command of the words, the names of its files, and its limit on states.
-fn job_in(alloc: Global, words: &str) -> Result<(Command, String, u32), Fail> {
+/// Whether the job has this command, these names of files and this limit on states.
+fn is(job: &Job, wanted: &PlainJob) -> bool {
+    job.command == wanted.command
+        && job.domain.as_str() == wanted.domain
+        && job.problem.as_str() == wanted.problem
+        && job.goals.as_str() == wanted.goals
+        && job.limits.states == wanted.states
+}
+
+/// Whether the words ask for this job.
+fn has_job(alloc: Global, words: &str, wanted: &PlainJob) -> Result<bool, Fail> {
     let words = words_of(alloc, words)?;
     let job = read_words(alloc, &words)?;
-    let names = format!(in alloc; "{} {} {}", job.domain, job.problem, job.goals)?;
-    Ok((job.command, names, job.limits.states))
+    Ok(is(&job, wanted))
 }
+
+/// A job as plain data.
+struct PlainJob {
+    command: Command,
+    domain: &'static str,
+    problem: &'static str,
+    goals: &'static str,
+    states: u32,
+}
+
+/// Words, and the jobs for which they ask.
+const JOBS: &[(&str, PlainJob)] = &[
+    (
+        COST,
+        PlainJob {
+            command: Command::Cost,
+            domain: "d",
+            problem: "p",
+            goals: "g",
+            states: 100_000,
+        },
+    ),
+    (
+        "wcd --max-states 0000000005 --problem=p --goals g --domain=d",
+        PlainJob {
+            command: Command::Wcd,
+            domain: "d",
+            problem: "p",
+            goals: "g",
+            states: 5,
+        },
+    ),
+    (
+        "show --problem q --domain=e",
+        PlainJob {
+            command: Command::Show,
+            domain: "e",
+            problem: "q",
+            goals: "",
+            states: 100_000,
+        },
+    ),
+];
 
 #[test]
 fn jobs_are_read(rt: HostRuntime) -> Result<(), Fail> {
-    for (words, command, names, states) in [
-        (COST, Command::Cost, "d p g", 100_000),
-        (
-            "wcd --max-states 0000000005 --problem=p --goals g --domain=d",
-            Command::Wcd,
-            "d p g",
-            5,
-        ),
-        (
-            "show --problem q --domain=e",
-            Command::Show,
-            "e q ",
-            100_000,
-        ),
-    ] {
-        let (of, named, limit) = job_in(rt.alloc(), words)?;
-        assert_eq!(rt;
-            (of, named.as_str(), limit),
-            (command, names, states),
-            "{words}"
-        );
+    for (words, wanted) in JOBS {
+        assert!(rt; has_job(rt.alloc(), words, wanted)?, "{words}");
     }
     Ok(())
 }

@@ -1,6 +1,0 @@
-use Rattle.std.proofs.Common.{All}
-use Rattle.strips_model.specs.Values.{AreAtoms}
-use Rattle.library_tests.proofs.planning.tables.family.Given as goal
-
-abbrev pub invariant-loop-set : goal.invariant-loop-set
-invariant-loop-set l = All (λ s. AreAtoms l.below s.items) l.family.items
