@@ -1,13 +1,15 @@
 #!/usr/bin/env bash
 # Files of up to 2^20 bytes that a stranger might hand in, to see what they cost: each is made, given to the built
-# program, and told with its seconds, its most memory in MiB and the line that the program ends with. A run is
-# cut off behind 60 seconds or 8 GiB.
+# program, and told with its seconds, its most memory in MiB, whether it is within 2 seconds and 1 GiB, and the line
+# that the program ends with. A run is cut off behind 60 seconds or 8 GiB. It ends with 1 where an input is not
+# within these, or there is no program.
 #     bench/hostile.sh [NAME ..]     all inputs, or those of these names
 set -eu
 top=$(cd "$(dirname "$0")/.." && pwd)
 cd "$top/crates/grd"
 rt run >/dev/null 2>&1 || true
 program=$PWD/out/grd
+[ -x "$program" ] || { echo "there is no $program" >&2; exit 1; }
 work=$(mktemp -d)
 trap 'rm -rf "$work"' EXIT
 python3 - "$program" "$work" "$@" <<'END'
@@ -15,6 +17,7 @@ import os, resource, subprocess, sys, time
 
 program, work, *wanted = sys.argv[1:]
 MOST = 1 << 20
+SECONDS, MIB = 2, 1024
 PROBLEM = "(define (problem p) (:domain d) (:init))"
 
 
@@ -124,7 +127,8 @@ def limits():
     resource.setrlimit(resource.RLIMIT_AS, (8 << 30, 8 << 30))
 
 
-def run(name, make):
+def is_within(name, make):
+    """Gives the input to the program, tells what it cost, and whether it is within the seconds and the memory."""
     domain, problem = make()
     for file, text in (("d", domain), ("p", problem), ("g", "(p)\n")):
         with open(os.path.join(work, file), "w") as it:
@@ -139,15 +143,19 @@ def run(name, make):
         ran.kill()
     line = ran.stderr.read().decode(errors="replace").strip()
     held = resource.getrusage(resource.RUSAGE_CHILDREN).ru_maxrss // 1024
-    print(f"{name:30} {taken:6.2f} s  {held:6} MiB  {line[:90] or ran.returncode}", flush=True)
+    within = taken <= SECONDS and held <= MIB
+    told = "within" if within else "PAST"
+    print(f"{name:30} {taken:6.2f} s  {held:6} MiB  {told:6}  {line[:90] or ran.returncode}", flush=True)
+    return within
 
 
+are_within = True
 for make in INPUTS:
     if not wanted or make.__name__ in wanted:
         # each in a process of its own, so that the most memory is that of this run
         child = os.fork()
         if child == 0:
-            run(make.__name__, make)
-            os._exit(0)
-        os.waitpid(child, 0)
+            os._exit(0 if is_within(make.__name__, make) else 1)
+        are_within = os.waitpid(child, 0)[1] == 0 and are_within
+sys.exit(0 if are_within else 1)
 END
