@@ -9,13 +9,13 @@ pub enum PddlFault {
     #[error("byte {0}: bad byte")]
     Lex(u32),
     /// The text is not one list. The fault is never want of memory.
-    #[error(transparent)]
+    #[error("{0}")]
     Tree(TreeFault),
     /// An item that has no place in the form, or a list that lacks a needed item.
     #[error("byte {0}: shape")]
     Shape(u32),
     /// A part of PDDL that is refused by name: the place of its list or word.
-    #[error("byte {0}: unsupported {1:?}")]
+    #[error("byte {0}: unsupported {1}")]
     Unsupported(u32, Feature),
     /// The second section of a kind, at its bracket, or the second part of a kind in an action, at
     /// its keyword.
@@ -26,26 +26,43 @@ pub enum PddlFault {
 }
 
 /// A part of PDDL that is refused.
-#[derive(Clone, Copy, Debug, PartialEq, Eq)]
+#[derive(Clone, Copy, Debug, PartialEq, Eq, Error)]
 pub enum Feature {
     /// A keyword in `:requirements` other than those that are accepted.
+    #[error("requirement")]
     Requirement,
+    #[error("functions")]
     Functions,
+    #[error("derived predicate")]
     Derived,
+    #[error("durative action")]
     Durative,
+    #[error("constraints")]
     Constraints,
+    #[error("metric")]
     Metric,
     /// `either` as the type of a type, a constant or an object.
+    #[error("either")]
     EitherOfNames,
+    #[error("disjunction")]
     Disjunction,
+    #[error("implication")]
     Implication,
+    #[error("quantifier")]
     Quantifier,
+    #[error("conditional effect")]
     Conditional,
+    #[error("preference")]
     Preference,
+    #[error("numeric effect")]
     NumericEffect,
+    #[error("numeric condition")]
     NumericCondition,
+    #[error("equality")]
     Equality,
+    #[error("negative precondition")]
     NegativePrecondition,
+    #[error("negative initial atom")]
     NegativeInit,
 }
 
