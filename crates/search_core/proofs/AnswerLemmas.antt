@@ -21,7 +21,8 @@ use Rattle.search_core.specs.Visits.{IsWhole, IsAnswer, row_within, row_never, r
 use Rattle.search_core.proofs.KeptLemmas.{kept_all, kept_distinct}
 use Rattle.search_core.proofs.NumberLemmas.{HasNumber, HasNoNumber}
 use Rattle.search_core.proofs.PlaceLemmas.{some_at}
-use Rattle.search_core.proofs.TableLemmas.{any_at, filter_map_get, filter_map_all, refutes_all, refutes_ever}
+use Rattle.search_core.proofs.PlaceLemmas.{any_at, filter_map_get, filter_map_all}
+use Rattle.search_core.proofs.TableLemmas.{refutes_all, refutes_ever}
 
 all_from_contains : {X : Type 0} (P : X → Type 0) (xs : List X) → ((x : X) → Contains xs x → P x) → All P xs
 all_from_contains P xs h k d within = h (get_or xs k d) (Contains-get_or xs k d within)
@@ -104,7 +105,7 @@ module _ {S M : Type 0} (next : Successors S) (is_done : S → Bool) (level : S 
       record { path = actions_of reached.walk; leads = record { walk = reached.walk; steps = reached.steps; carries = refl; ends = reached.ends } }
 
   -- rows of reached states, the unmarked ones of which have the states without a mark
-  counted_of : (rows : List (KeptRow S M)) → All (λ row. IsReachable next start row.state) rows → unmarked rows ≡ kept_states xs → AreCounted next level start r limit rows
+  counted_of : (rows : List (KeptRow S M)) → All (λ row. IsReachable next start row.state) rows → unmarked rows ≡ kept_states xs → AreCounted next (Counts next level start r) start limit rows
   counted_of rows reached same = record {
     reached = reached;
     count = let P : List S → Type 0 = All (Counts next level start r) in subst P (sym same) (kept_all (Counts next level start r) xs (λ i e got none. (near_kept i e got none).counts));
@@ -184,7 +185,7 @@ module _ {S M : Type 0} (next : Successors S) (is_done : S → Bool) (level : S 
         right = refutes_all next is_done level shows law rows all_refuted start r start_row;
         refuted = let Q : List (KeptRow S M) → Type 0 = λ rs. AreRefuted next is_done shows rs in subst Q (sym is) all_refuted;
         start_row = let Q : List (KeptRow S M) → Type 0 = λ rs. HasRow rs start r in subst Q (sym is) start_row;
-        counted = let Q : List (KeptRow S M) → Type 0 = λ rs. AreCounted next level start r limit rs in
+        counted = let Q : List (KeptRow S M) → Type 0 = λ rs. AreCounted next (Counts next level start r) start limit rs in
             subst Q (sym is) (counted_of rows rows_reached (unmarked_within r xs (λ i e got none. (near_kept i e got none).near)));
         reason = beyond_of number;
       }
@@ -236,6 +237,6 @@ module _ {S M : Type 0} (next : Successors S) (is_done : S → Bool) (level : S 
           right = λ n. refutes_ever next is_done level shows law nevers never_refuted start n start_row;
           refuted = let Q : List (KeptRow S M) → Type 0 = λ rs. AreRefuted next is_done shows rs in subst Q (sym is) never_refuted;
           start_row = let Q : List (KeptRow S M) → Type 0 = λ rs. HasNeverRow rs start in subst Q (sym is) start_row;
-          counted = let Q : List (KeptRow S M) → Type 0 = λ rs. AreCounted next level start r limit rs in subst Q (sym is) (counted_of nevers nevers_reached (unmarked_never xs));
+          counted = let Q : List (KeptRow S M) → Type 0 = λ rs. AreCounted next (Counts next level start r) start limit rs in subst Q (sym is) (counted_of nevers nevers_reached (unmarked_never xs));
           reason = tt;
         }

@@ -8,3 +8,15 @@ mod VisitLemmas
 mod NumberLemmas
 mod TableLemmas
 mod AnswerLemmas
+mod QueueLemmas
+mod EasedLemmas
+mod WaitLemmas
+mod NodeLemmas
+mod SetLemmas
+mod PickLemmas
+mod TakeLemmas
+mod MarkLemmas
+mod TurnLemmas
+mod ParentLemmas
+mod RowLemmas
+mod EndLemmas

@@ -8,10 +8,11 @@ use Rattle.std.proofs.lemmas.Option.{slice_get_within, MatchOption-at_none}
 use Rattle.grd_base.specs.declared.ids.ActionId.{ActionId}
 use Rattle.grd_base.specs.declared.limits.Bound.{Bound}
 use Rattle.grd_base.specs.declared.limits.Bound.TheVariants.{Steps, Never}
-use Rattle.search_core.specs.declared.found.Way.{Way}
+use Rattle.search_core.specs.declared.ways.Way.{Way}
 use Rattle.grd_base.specs.Counts.{AllDistinct, MoreThan}
 use Rattle.search_core.specs.Spaces.{Successors, end_of, states_on, actions_of, IsAtLeastLevel, Counts}
-use Rattle.search_core.specs.Progress.{Entry, IsHeld, IsReached, IsKept, IsCutOff, IsChild, IsEntry, IsProgress, IsNew, IsCut, kept_states}
+use Rattle.search_core.specs.Entries.{IsHeld}
+use Rattle.search_core.specs.Progress.{Entry, IsReached, IsKept, IsCutOff, IsChild, IsEntry, IsProgress, IsNew, IsCut, kept_states}
 use Rattle.search_core.proofs.PlaceLemmas.{get_push_old, get_push_new, get_push_cases}
 use Rattle.search_core.proofs.KeptLemmas.{kept_all, kept_distinct, count_cut, count_kept}
 use Rattle.search_core.proofs.WalkLemmas.{IsWalk-push, end_of-push, states_on-push}

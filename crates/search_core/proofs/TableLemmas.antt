@@ -1,38 +1,14 @@
 -- What rows that refute rule out.
 use Rattle.std.proofs.Common.{◌≡◌, ℕ, zero, suc, ◌-◌, ◌≤◌, List, [], ◌∷◌, length, refl, sym, ap, subst, ◌∙◌, Some, None, Option, Bool, true, true≢false, arith}
-use Rattle.std.specs.Prelude.{Contains, MatchOption, All, Any, slice_get}
-use Rattle.std.specs.List.{filter_map, cons_option}
+use Rattle.std.specs.Prelude.{Contains, MatchOption, All}
 use Rattle.std.proofs.lemmas.List.{length-map}
-use Rattle.std.proofs.lemmas.List.Elements.{All-cons, All-nil, All-contains}
-use Rattle.std.proofs.lemmas.Option.{slice_get_within, get_or_from_slice_get, same_Some, none-some}
+use Rattle.std.proofs.lemmas.List.Elements.{All-contains}
 use Rattle.grd_base.specs.declared.ids.ActionId.{ActionId}
 use Rattle.grd_base.specs.declared.limits.Bound.{Bound}
 use Rattle.grd_base.specs.declared.limits.Bound.TheVariants.{Steps, Never}
 use Rattle.search_core.specs.declared.rows.KeptRow.{KeptRow}
 use Rattle.search_core.specs.Spaces.{Successors, IsWalk, end_of, actions_of, IsDoneWithin, IsAdmissible, IsAtMostSteps, IsAbove, IsAtLeast}
 use Rattle.search_core.specs.Tables.{HasRow, HasNeverRow, IsRefuted, IsRefutedBySteps, IsRefutedByMark}
-
--- some element, by its place
-pub any_at : {X : Type 0} (P : X → Type 0) (xs : List X) (i : ℕ) (x : X) → slice_get xs i ≡ Some x → P x → Any P xs
-any_at P xs i x got h = (i, x, slice_get_within xs i x got, get_or_from_slice_get xs i x x got, h)
-
--- each element, by the elements of a list that it came from
-pub filter_map_get : {X Y : Type 0} (h : X → Option Y) (xs : List X) (i : ℕ) (x : X) (y : Y) → slice_get xs i ≡ Some x → h x ≡ Some y → (k : ℕ) × (slice_get (filter_map h xs) k ≡ Some y)
-filter_map_get h [] i x y got is = absurd (none-some x got)
-filter_map_get {X} {Y} h (z ∷ xs) zero x y got is = (0, ap (λ o. slice_get (cons_option o (filter_map h xs)) 0) (ap h (same_Some z x got) ∙ is))
-filter_map_get h (z ∷ xs) (suc i) x y got is = shift (h z) (filter_map_get h xs i x y got is)
-  where
-    shift : (o : Option _) → (k : ℕ) × (slice_get (filter_map h xs) k ≡ Some y) → (k : ℕ) × (slice_get (cons_option o (filter_map h xs)) k ≡ Some y)
-    shift None r = r
-    shift (Some w) r = (suc r.0, r.1)
-
-all_cons_option : {Y : Type 0} (P : Y → Type 0) (o : Option Y) (ys : List Y) → ((y : Y) → o ≡ Some y → P y) → All P ys → All P (cons_option o ys)
-all_cons_option P None ys h rest = rest
-all_cons_option P (Some y) ys h rest = All-cons P y ys (h y refl) rest
-
-pub filter_map_all : {X Y : Type 0} (h : X → Option Y) (P : Y → Type 0) (xs : List X) → ((i : ℕ) (x : X) (y : Y) → slice_get xs i ≡ Some x → h x ≡ Some y → P y) → All P (filter_map h xs)
-filter_map_all h P [] each = All-nil P
-filter_map_all h P (x ∷ xs) each = all_cons_option P (h x) (filter_map h xs) (λ y is. each 0 x y refl is) (filter_map_all h P xs (λ i z y got is. each (suc i) z y got is))
 
 -- rows that refute leave no walk to a done state
 module _ {S M : Type 0} (next : Successors S) (is_done : S → Bool) (level : S → Option ℕ) (shows : S → M → Bound → Type 0) (law : (s : S) (m : M) (b : Bound) → shows s m b → IsAdmissible next is_done (level s) s b)

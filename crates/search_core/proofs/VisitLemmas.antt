@@ -5,10 +5,11 @@ use Rattle.std.proofs.lemmas.Option.{slice_get_within, MatchOption-at_none, same
 use Rattle.std.proofs.lemmas.List.Elements.{All-weaker, All-push}
 use Rattle.grd_base.specs.declared.ids.ActionId.{ActionId}
 use Rattle.grd_base.specs.declared.limits.Bound.{Bound}
-use Rattle.search_core.specs.declared.found.Way.{Way}
+use Rattle.search_core.specs.declared.ways.Way.{Way}
 use Rattle.search_core.specs.Spaces.{Successors}
 use Rattle.search_core.specs.Answers.{IsDonePath}
-use Rattle.search_core.specs.Progress.{Entry, IsHeld, IsHeldBy, IsKept, IsCutOff, IsProgress, IsNew, IsAdded, IsGrown, AreLinked, HaveEarlierParents, IsWay, IsWayOn}
+use Rattle.search_core.specs.Entries.{IsHeld}
+use Rattle.search_core.specs.Progress.{Entry, IsHeldBy, IsKept, IsCutOff, IsProgress, IsNew, IsAdded, IsGrown, AreLinked, HaveEarlierParents, IsWay, IsWayOn}
 use Rattle.search_core.specs.Visits.{IsHead, IsStepFrom, AreStepsFrom, IsStep, AreHeldBy, IsExploring}
 use Rattle.search_core.proofs.PlaceLemmas.{some_at, get_push_old, get_push_new, get_push_cases, get_grown, grown_none, grown_trans, below_cases}
 

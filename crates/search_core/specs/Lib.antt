@@ -2,5 +2,11 @@ pub mod Promise
 pub mod Spaces
 pub mod Tables
 pub mod Answers
+pub mod LeastAnswers
+pub mod Entries
 pub mod Progress
 pub mod Visits
+pub mod Tickets
+pub mod Nodes
+pub mod Turns
+pub mod LeastRows

@@ -5,20 +5,14 @@ use Rattle.grd_base.specs.declared.ids.ActionId.{ActionId}
 use Rattle.grd_base.specs.declared.limits.Bound.{Bound}
 use Rattle.grd_base.specs.declared.limits.Bound.TheVariants.{Steps, Never}
 use Rattle.search_core.specs.declared.found.Found.{Found}
-use Rattle.search_core.specs.declared.found.Way.{Way}
+use Rattle.search_core.specs.declared.ways.Way.{Way}
 use Rattle.grd_base.specs.Counts.{AllDistinct}
+use Rattle.search_core.specs.Entries.{IsHeld, IsFresh}
 use Rattle.search_core.specs.Spaces.{Successors, IsWalk, end_of, states_on, IsPath, Counts}
 
 -- a state that was found, with what is known of it
 abbrev pub Entry : Type 0 → Type 0 → Type 0
 Entry S M = S × Found M
-
--- some entry has this state
-pub record IsHeld {S M : Type 0} (entries : List (Entry S M)) (s : S) : Type 0 where
-  pub place : ℕ
-  pub entry : Entry S M
-  pub at : slice_get entries place ≡ Some entry
-  pub state_is : entry.0 ≡ s
 
 -- some entry has this state, at most so deep
 pub record IsHeldBy {S M : Type 0} (entries : List (Entry S M)) (s : S) (depth : ℕ) : Type 0 where
@@ -91,7 +85,7 @@ pub record IsProgress {S M : Type 0} (next : Successors S) (is_done : S → Bool
 
 -- a state that may be added, reached in this way
 pub record IsNew {S M : Type 0} (next : Successors S) (is_done : S → Bool) (start : S) (r kept : ℕ) (entries : List (Entry S M)) (s : S) (way : Way) : Type 0 where
-  pub fresh : IsHeld entries s → ⊥
+  pub fresh : IsFresh entries s
   pub one_more : way.depth ≤ r + 1
   pub not_done : way.depth ≤ r → is_done s ≡ false
   pub earlier : way.depth ≤ kept

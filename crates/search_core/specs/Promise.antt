@@ -11,3 +11,5 @@ pub use Rattle.search_core.specs.Tables.{AreRefuted, with_unmarked, unmarked, Ar
 -- What the answers of `within` say.
 pub use Rattle.search_core.specs.Answers.{IsDonePath, IsTrueAnswer, rows_of, HasStartRow, IsBeyond}
 pub use Rattle.search_core.specs.Answers.{HasReason}
+-- What the answers of `least` say, and which states count for it.
+pub use Rattle.search_core.specs.LeastAnswers.{CountsForLeast, IsLeastPath, IsLeastAnswer, least_rows, HasLeastRow}

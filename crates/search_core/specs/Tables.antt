@@ -4,7 +4,7 @@ use Rattle.grd_base.specs.declared.limits.Bound.{Bound}
 use Rattle.grd_base.specs.declared.limits.Bound.TheVariants.{Steps, Never}
 use Rattle.search_core.specs.declared.rows.KeptRow.{KeptRow}
 use Rattle.grd_base.specs.Counts.{AllDistinct}
-use Rattle.search_core.specs.Spaces.{Successors, IsAtLeast, IsAbove, IsReachable, Counts}
+use Rattle.search_core.specs.Spaces.{Successors, IsAtLeast, IsAbove, IsReachable}
 
 -- some row has this state, with a bound of at least n
 abbrev pub HasRow : {S M : Type 0} → List (KeptRow S M) → S → ℕ → Type 0
@@ -46,10 +46,10 @@ abbrev pub unmarked : {S M : Type 0} → List (KeptRow S M) → List S
 unmarked [] = []
 unmarked (row ∷ rows) = with_unmarked row.mark row.state (unmarked rows)
 
--- the rows' states are reached from the start; those without a mark have states that count, no two the
--- same and at most `limit` of them
-pub record AreCounted {S M : Type 0} (next : Successors S) (level : S → Option ℕ) (start : S) (r limit : ℕ) (rows : List (KeptRow S M)) : Type 0 where
+-- the rows' states are reached from the start; those without a mark have states that count, whatever
+-- that is, no two the same and at most `limit` of them
+pub record AreCounted {S M : Type 0} (next : Successors S) (counts : S → Type 0) (start : S) (limit : ℕ) (rows : List (KeptRow S M)) : Type 0 where
   pub reached : All (λ row. IsReachable next start row.state) rows
-  pub count : All (Counts next level start r) (unmarked rows)
+  pub count : All counts (unmarked rows)
   pub distinct : AllDistinct (unmarked rows)
   pub few : length (unmarked rows) ≤ limit

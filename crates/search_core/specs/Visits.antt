@@ -3,10 +3,10 @@ use Rattle.std.specs.Prelude.{◌≡◌, ℕ, ◌+◌, ◌-◌, ◌≤◌, ◌<�
 use Rattle.grd_base.specs.declared.ids.ActionId.{ActionId}
 use Rattle.grd_base.specs.declared.limits.Bound.{Bound}
 use Rattle.grd_base.specs.declared.limits.Bound.TheVariants.{Steps, Never}
-use Rattle.search_core.specs.declared.visits.Head.{Head}
+use Rattle.search_core.specs.declared.ways.Head.{Head}
 use Rattle.search_core.specs.declared.found.Progress.{Progress}
 use Rattle.search_core.specs.declared.visits.Question.{Question}
-use Rattle.search_core.specs.declared.found.Way.{Way}
+use Rattle.search_core.specs.declared.ways.Way.{Way}
 use Rattle.search_core.specs.declared.rows.KeptRow.{KeptRow}
 use Rattle.search_core.specs.declared.rows.WithinAnswer.{WithinAnswer}
 use Rattle.grd_base.specs.Counts.{MoreThan}
@@ -64,7 +64,7 @@ pub record IsAnswer {S M : Type 0} (next : Successors S) (is_done : S → Bool) 
   pub right : IsTrueAnswer next is_done start r limit answer
   pub refuted : AreRefuted next is_done shows (rows_of answer)
   pub start_row : HasStartRow start r answer
-  pub counted : AreCounted next level start r limit (rows_of answer)
+  pub counted : AreCounted next (Counts next level start r) start limit (rows_of answer)
   pub reason : HasReason next shows start r limit answer
 
 -- the same for a question of the program, by the meanings of its space and of its floor

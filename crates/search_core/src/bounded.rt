@@ -131,7 +131,8 @@ pub fn within<S: Space, F: Floor<S>>(
         (F.shows floor.now space.now) (rows_of answer)) }
     ensures start { IfOk result (HasStartRow from r) }
     ensures counted { IfOk result
-        (λ answer. AreCounted (S.next space.now) (S.level space.now) from r limit (rows_of answer)) }
+        (λ answer. AreCounted (S.next space.now)
+        (Counts (S.next space.now) (S.level space.now) from r) from limit (rows_of answer)) }
     ensures reason { IfOk result
         (HasReason (S.next space.now) (F.shows floor.now space.now) from r limit) }
     ensures many { result ≡ Err SearchFault.TooManyStates

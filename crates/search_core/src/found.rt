@@ -1,27 +1,19 @@
 ghost use Rattle.std.specs.Prelude.{◌≡◌, ◌<◌, [], ◌∷◌, ◌++◌, length, MatchBool, IfOk, OnOk};
-ghost use Rattle.search_core.specs.Progress.{IsHeld, HaveEarlierParents, AreLinked, IsWayOn};
+ghost use Rattle.search_core.specs.Entries.{IsHeld, IsFresh};
+ghost use Rattle.search_core.specs.Progress.{HaveEarlierParents, AreLinked, IsWayOn};
 ghost use Rattle.search_core.specs.Spaces.{Successors};
 
 use crate::space::Space;
+use crate::ways::Way;
 use grd_base::{ActionId, Bound, OutOfMemory};
 use indexmap::IndexMap;
 use std::alloc::Global;
 use std::hash::Hash;
 
-/// How a state was first reached.
-#[derive(Clone, Copy, Debug)]
-pub(crate) struct Way {
-    /// The length of the path to it.
-    pub depth: u32,
-    /// The place of the state before it on that path, among the states that were found.
-    pub parent: usize,
-    /// The action between the two.
-    pub action: ActionId,
-}
-
 /// What is known of a state that was found.
 #[derive(Drop)]
 pub(crate) struct Found<M> {
+    /// How it was first reached.
     pub way: Way,
     /// What the floor answered for it.
     pub bound: Bound,
@@ -42,7 +34,7 @@ pub(crate) struct Progress<T: Eq + Hash, M> {
 pub(crate) fn is_found<S: Space, M>(progress: &Progress<S::State, M>, state: &S::State) -> bool
     ensures { MatchBool result
         (IsHeld progress.now.found.entries state.now)
-        (IsHeld progress.now.found.entries state.now → ⊥) }
+        (IsFresh progress.now.found.entries state.now) }
 {
     progress.found.contains_key(state)
 }
@@ -53,7 +45,7 @@ pub(crate) fn add<S: Space, M: Drop>(
     state: S::State,
     found: Found<M>,
 ) -> Result<(), OutOfMemory>
-    requires { IsHeld progress.old.found.entries state → ⊥ }
+    requires { IsFresh progress.old.found.entries state }
     ensures added { OnOk result
         (progress.new.found.entries ≡ progress.old.found.entries ++ (state, found) ∷ []) }
     ensures kept { progress.new.kept ≡ progress.old.kept }

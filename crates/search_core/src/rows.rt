@@ -22,3 +22,13 @@ pub enum WithinAnswer<T, M> {
     /// No number of steps leads to one.
     Never(Vec<KeptRow<T, M>>),
 }
+
+/// A path of least length to a done state, or that none is reached. The rows rule out every shorter
+/// path.
+#[derive(Drop)]
+pub enum LeastAnswer<T, M> {
+    /// The actions of the path.
+    Found(Vec<ActionId>, Vec<KeptRow<T, M>>),
+    /// No number of steps leads to a done state.
+    Never(Vec<KeptRow<T, M>>),
+}

@@ -3,8 +3,9 @@ ghost use Rattle.search_core.specs.Progress.{IsCut, IsAdded, IsHeldBy};
 ghost use Rattle.search_core.specs.Visits.{IsUnderWay, MayAdd, AreTooMany, IsHead, IsStepFrom, AreStepsFrom, AreHeldBy, GoesOn, IsAskedPath, IsExploringAt, IsExplored};
 
 use crate::faults::SearchFault;
-use crate::found::{Found, Progress, Way, add, is_found, path_through};
+use crate::found::{Found, Progress, add, is_found, path_through};
 use crate::space::{Floor, Space};
+use crate::ways::{Head, Way};
 use grd_base::{ActionId, Bound};
 use std::alloc::Global;
 
@@ -17,15 +18,6 @@ pub(crate) struct Question<'a, S, F, T> {
     pub r: u32,
     /// How many states without a mark may be found.
     pub limit: u32,
-}
-
-/// A found state that is expanded.
-#[derive(Clone, Copy, Debug)]
-pub(crate) struct Head {
-    /// Its place among the states that were found.
-    pub place: usize,
-    /// The length of the path to it.
-    pub depth: u32,
 }
 
 /// Whether the bound of a state at this depth rules out a path of at most r steps through it.
