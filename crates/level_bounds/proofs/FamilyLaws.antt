@@ -43,7 +43,7 @@ module _ (t : PlainTask) (removed : List ActionId) (s : State) where
       ap set_of (sets_at n i d (omega (arith, within, sets_long n))) ∙ atoms_have (after_rounds t removed s i) t.atoms (rounds_over t task removed s over i)
 
   -- a rising list with the atoms of a round is its list
-  set_is : IsTask t → IsOver t s → (wide : ℕ) (set : List AtomId) (k : ℕ) → set_of set ≡ after_rounds t removed s k → AreAtoms wide set → set ≡ atoms_in t (after_rounds t removed s k)
+  pub set_is : IsTask t → IsOver t s → (wide : ℕ) (set : List AtomId) (k : ℕ) → set_of set ≡ after_rounds t removed s k → AreAtoms wide set → set ≡ atoms_in t (after_rounds t removed s k)
   set_is task over wide set k same rises =
       let none = rounds_over t task removed s over k in
       atoms_are (after_rounds t removed s k) t.atoms set none (atoms_below wide t.atoms set rises (λ n high. ap (λ v. v n) same ∙ none n high)) same

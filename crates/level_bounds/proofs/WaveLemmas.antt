@@ -164,6 +164,13 @@ module _ (t : PlainTask) (u : State) (candidates : List ActionId) (v : State) (f
       let new = and_parts (v a.0) _ (sym (growth.fresh_all a.0) ∙ is_fresh) in
       missing_fewer u v kept a.0 (not-true _ new.1) new.0 t.atoms (below 0 (record { 0 = 0 }) some)
 
+-- each usable action is in the list of every atom that it needs
+abbrev pub AllListed : PlainTask → List ActionId → List (List ActionId) → Type 0
+AllListed t removed lists = (a : ActionId) (act : GroundAction) → slice_get t.actions a.0 ≡ Some act → is_usable t removed a ≡ true → (n : ℕ) → set_of act.pre n ≡ true → Contains (listed lists n) a
+
+listed_all : (t : PlainTask) (removed free : List ActionId) (lists : List (List ActionId)) → AreFiled t removed (length t.actions) free lists → AllListed t removed lists
+listed_all t removed free lists filed a act at may n needs = filed.found_listed a act at (slice_get_within t.actions a.0 act at) may n needs
+
 module _ (t : PlainTask) (removed : List ActionId) (u : State) (candidates : List ActionId) (ready : AreReady t removed u candidates) where
   usable_in : (a : ActionId) → Contains candidates a → is_usable t removed a ≡ true
   usable_in a there = All-contains (λ b. is_usable t removed b ≡ true) candidates a ready.usable there
@@ -212,11 +219,12 @@ module _ (t : PlainTask) (removed : List ActionId) (u : State) (candidates : Lis
           ]
         ]
 
-    -- a usable action that applies after the round, and adds something new, is in the list of a fresh atom
-    fresh_listed : (free : List ActionId) (lists : List (List ActionId)) → AreFiled t removed (length t.actions) free lists
+    -- where each usable action is in the lists of the atoms that it needs, one that applies after the round, and
+    -- adds something new, is in the list of a fresh atom
+    pub ready_along : (lists : List (List ActionId)) → AllListed t removed lists
         → (a : ActionId) (act : GroundAction) → slice_get t.actions a.0 ≡ Some act → is_usable t removed a ≡ true → is_step t v a ≡ true → has_all v act.add ≡ false
         → (n : ℕ) × (set_of fresh n ≡ true) × Contains (listed lists n) a
-    fresh_listed free lists filed a act at may applies open_add =
+    ready_along lists filed a act at may applies open_add =
         let new = lacks_one v act.add open_add in
         let can : can_apply act v ≡ true = sym (step_at t v a act at) ∙ applies in
         let parts = and_parts (not act.blocked) (has_all v act.pre) can in
@@ -228,7 +236,7 @@ module _ (t : PlainTask) (removed : List ActionId) (u : State) (candidates : Lis
         let lacking = lacks_one u act.pre needs in
         let is_fresh : set_of fresh lacking.0 ≡ true =
         growth.fresh_all lacking.0 ∙ and_from (v lacking.0) _ (has_each v act.pre lacking.0 parts.1 lacking.1) (not_from_false _ lacking.2) in
-        (lacking.0, is_fresh, filed.found_listed a act at (slice_get_within t.actions a.0 act at) may lacking.0 lacking.1)
+        (lacking.0, is_fresh, filed a act at may lacking.0 lacking.1)
 
     -- the actions in the lists of the fresh atoms are the candidates of the next round
     pub ready_next : (free : List ActionId) (lists : List (List ActionId)) → AreFiled t removed (length t.actions) free lists
@@ -237,7 +245,7 @@ module _ (t : PlainTask) (removed : List ActionId) (u : State) (candidates : Lis
       usable = All-weaker (Contains next) (λ a. is_usable t removed a ≡ true) (λ a there.
           let by = (are a).0 there in
           All-contains (λ b. is_usable t removed b ≡ true) (listed lists by.0) a (filed.listed_usable by.0) by.2) next (All-contains_itself next);
-      all_in = λ a act at may applies more. (are a).1 (fresh_listed free lists filed a act at may applies more);
+      all_in = λ a act at may applies more. (are a).1 (ready_along lists (listed_all t removed free lists filed) a act at may applies more);
     }
 
 -- the actions that need nothing, and those that need an atom of the set, are the candidates of the first round

@@ -5,4 +5,4 @@
 pub use Rattle.level_bounds.specs.Floors.{PlainFloor, IsFloorOf, level_of, MeetsBound, ShowsLevel}
 pub use Rattle.level_bounds.specs.Floors.{sets_before, sets_of, family_of}
 -- How the rounds of a level are made.
-pub use Rattle.level_bounds.specs.Waves.{is_usable, AreFiled}
+pub use Rattle.level_bounds.specs.Waves.{is_usable, AreFiled, AreReady}

@@ -25,6 +25,10 @@ pub record AreFiled (t : PlainTask) (removed : List ActionId) (count : ℕ) (fre
   pub found_listed : (a : ActionId) (act : GroundAction) → slice_get t.actions a.0 ≡ Some act → a.0 < count
       → IsTrue (is_usable t removed a) → (n : ℕ) → IsTrue (set_of act.pre n) → Contains (listed lists n) a
 
+-- whether the action is not in the list
+abbrev pub is_other : List ActionId → ActionId → Bool
+is_other list a = not (has_id list a)
+
 -- the candidates are usable, and each usable action that applies in the set and adds something that is
 -- not in it is among them
 pub record AreReady (t : PlainTask) (removed : List ActionId) (u : State) (candidates : List ActionId) : Type 0 where

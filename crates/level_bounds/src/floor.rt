@@ -1,14 +1,14 @@
-ghost use Rattle.std.specs.Prelude.{◌≡◌, ◌*◌, ◌<◌, ◌≤◌, false, List, length, All, IsTrue, IfOk};
+ghost use Rattle.std.specs.Prelude.{◌≡◌, ◌*◌, ◌<◌, ◌≤◌, ◌++◌, false, List, length, All, IsTrue, IfOk};
 ghost use Rattle.grd_base.specs.declared.ids.ActionId.{ActionId};
 ghost use Rattle.grd_base.specs.Bits.{members};
 ghost use Rattle.strips_model.specs.Values.{AreAtoms};
 ghost use Rattle.strips_model.specs.Plans.{Reaches, IsOver};
 ghost use Rattle.strips_model.specs.Cuts.{IsFamily};
-ghost use Rattle.strips_model.specs.Levels.{IsLevel, grown, missing};
+ghost use Rattle.strips_model.specs.Levels.{IsLevel, grown, after_rounds, missing};
 ghost use Rattle.level_bounds.specs.Floors.{IsFloorOf, level_of, MeetsBound, ShowsLevel, family_of};
 ghost use Rattle.level_bounds.specs.Waves.{AreReady};
 
-use crate::wave::{Wave, add_needing_state, file, grow, needing};
+use crate::wave::{Wave, add_needing_state, file, grow, needing, others};
 use grd_base::{ActionId, ActionSet, Bits, Bound, GoalId, OutOfMemory, members_below};
 use std::alloc::Global;
 use std::marker::Model;
@@ -59,6 +59,20 @@ impl LevelFloor {
             free,
             needed_by,
         })
+    }
+
+    /// The goal.
+    pub fn goal(&self) -> GoalId
+        ensures { result ≡ self.now.goal }
+    {
+        self.goal
+    }
+
+    /// The actions that may not be used.
+    pub fn removed(&self) -> &ActionSet
+        ensures { result.now ≡ self.now.removed }
+    {
+        &self.removed
     }
 
     /// The level of the goal at the state, and `Never` where it has none.
@@ -123,8 +137,59 @@ impl LevelFloor {
         Ok(Family { sets })
     }
 
+    /// The atoms that are reached from the state, where nothing is deleted, without the removed actions and
+    /// those of the list.
+    pub fn reached_around<const W: usize>(
+        &self,
+        alloc: Global,
+        task: &Task,
+        s: &Bits<W>,
+        list: &ActionSet,
+    ) -> Result<Bits<W>, OutOfMemory>
+        requires made { IsFloorOf task.now self.now }
+        requires width { W ≤ 64 }
+        requires atoms { task.now.atoms ≤ 64 * W }
+        ensures { IfOk result (λ reached. members reached
+            ≡ after_rounds task.now (list.now ++ self.now.removed) (members s.now) task.now.atoms) }
+    {
+        known_task(task);
+        let mut wave = self.first(alloc, task, s)?;
+        wave.candidates = others(alloc, wave.candidates.as_slice(), list)?;
+        while self.advance_around(alloc, task, &mut wave, list)? {}
+        Ok(wave.reached)
+    }
+
+    /// One round without the actions of the list. Answers whether it reached an atom.
+    fn advance_around<const W: usize>(
+        &self,
+        alloc: Global,
+        task: &Task,
+        wave: &mut Wave<W>,
+        list: &ActionSet,
+    ) -> Result<bool, OutOfMemory>
+        requires made { IsFloorOf task.now self.now }
+        requires width { W ≤ 64 }
+        requires atoms { task.now.atoms ≤ 64 * W }
+        requires ready { AreReady task.now (list.now ++ self.now.removed) (members wave.old.reached) wave.old.candidates.items }
+        ensures round { IfOk result (λ _. members wave.new.reached
+            ≡ grown task.now (list.now ++ self.now.removed) (members wave.old.reached)) }
+        ensures ready { IfOk result
+            (λ _. AreReady task.now (list.now ++ self.now.removed) (members wave.new.reached) wave.new.candidates.items) }
+        ensures more { IfOk result (λ more. IsTrue more
+            → missing (members wave.new.reached) task.now.atoms < missing (members wave.old.reached) task.now.atoms) }
+        ensures closed { IfOk result
+            (λ more. more ≡ false → members wave.new.reached ≡ members wave.old.reached) }
+    {
+        let growth = grow(alloc, task, wave)?;
+        let more = !growth.fresh.is_empty();
+        let needing = needing(alloc, &self.needed_by, growth.fresh.as_slice())?;
+        wave.candidates = others(alloc, needing.as_slice(), list)?;
+        wave.reached = growth.reached;
+        Ok(more)
+    }
+
     /// The state before the first round.
-    fn first<const W: usize>(
+    pub fn first<const W: usize>(
         &self,
         alloc: Global,
         task: &Task,
@@ -146,7 +211,7 @@ impl LevelFloor {
     }
 
     /// One round. Answers whether it reached an atom.
-    fn advance<const W: usize>(
+    pub fn advance<const W: usize>(
         &self,
         alloc: Global,
         task: &Task,

@@ -6,6 +6,8 @@
 //! none with an empty cut, or one with an empty cut where there is no level. For a state of the task it is
 //! one family, which the definitions compute.
 //!
+//! The rounds can be made one by one: `first` and `advance` of a floor, over a `Wave`.
+//!
 //! | file | what it does |
 //! |---|---|
 //! | `wave.rt` | makes one round over the actions that may add more |
@@ -19,3 +21,4 @@ mod floor;
 mod wave;
 
 pub use floor::LevelFloor;
+pub use wave::{Wave, file};

@@ -1,20 +1,22 @@
-ghost use Rattle.std.specs.Prelude.{◌≡◌, ◌↔◌, ℕ, ◌*◌, ◌<◌, ◌≤◌, ◌||◌, ◌&&◌, not, [], length, All, IsTrue, IfOk, Contains, ◌⊎◌};
+ghost use Rattle.std.specs.Prelude.{◌≡◌, ◌↔◌, ℕ, ◌*◌, ◌<◌, ◌≤◌, ◌||◌, ◌&&◌, not, [], length, All, IsTrue, IfOk, filter, Contains, ◌⊎◌};
 ghost use Rattle.grd_base.specs.declared.ids.ActionId.{ActionId};
 ghost use Rattle.grd_base.specs.Bits.{members};
 ghost use Rattle.grd_base.specs.Sets.{union};
 ghost use Rattle.strips_model.specs.Plans.{set_of};
 ghost use Rattle.strips_model.specs.Index.{listed};
-ghost use Rattle.level_bounds.specs.Waves.{IsGrowth};
+ghost use Rattle.level_bounds.specs.Waves.{IsGrowth, is_other};
 
-use grd_base::{ActionId, AtomId, Bits, OutOfMemory};
+use grd_base::{ActionId, ActionSet, AtomId, Bits, OutOfMemory};
 use std::alloc::Global;
 use strips_model::{AtomIndex, Task, applies};
 
 /// The atoms that are reached after some rounds, and the actions that may reach more.
 #[derive(Drop)]
-pub(crate) struct Wave<const W: usize> {
-    pub(crate) reached: Bits<W>,
-    pub(crate) candidates: Vec<ActionId>,
+pub struct Wave<const W: usize> {
+    /// The atoms that are reached.
+    pub reached: Bits<W>,
+    /// The actions that may reach more, in any order, with repeats or not.
+    pub candidates: Vec<ActionId>,
 }
 
 /// The atoms that are reached after one round more, and those that were not reached before.
@@ -25,7 +27,7 @@ pub(crate) struct Growth<const W: usize> {
 }
 
 /// Files the action with each atom of the list, or apart where there is none.
-pub(crate) fn file(
+pub fn file(
     free: &mut Vec<ActionId>,
     needed_by: &mut AtomIndex,
     a: ActionId,
@@ -83,6 +85,23 @@ pub(crate) fn needing(
         found.extend_from_slice(needed_by.at(*p))?;
     }
     Ok(found)
+}
+
+/// The candidates that are not in the list.
+pub(crate) fn others(
+    alloc: Global,
+    candidates: &[ActionId],
+    list: &ActionSet,
+) -> Result<Vec<ActionId>, OutOfMemory>
+    ensures { IfOk result (λ kept. kept.items ≡ filter (is_other list.now) candidates.now) }
+{
+    let mut kept = Vec::with_capacity(alloc, candidates.len())?;
+    for a in candidates {
+        if !list.contains(*a) {
+            kept.push(*a)?;
+        }
+    }
+    Ok(kept)
 }
 
 /// Joins the atoms on, and notes those that are new.

@@ -1,0 +1,9 @@
+pub mod ReachLemmas
+pub mod ListedCuts
+pub mod MarkLaws
+pub mod LackingLaws
+pub mod RoundCuts
+pub mod ZoneCuts
+pub mod GoalCuts
+pub mod AdderLemmas
+pub mod FamilyCuts

@@ -1,0 +1,5 @@
+pub mod Promise
+pub mod CutMarks
+pub mod CutFloors
+pub mod Zones
+pub mod Around
