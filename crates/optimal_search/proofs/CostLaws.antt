@@ -1,14 +1,13 @@
 -- What was found of a goal is its cost, and few states are kept.
-use Rattle.std.proofs.Common.{◌≡◌, ◌≢◌, ℕ, zero, suc, ◌*◌, ◌≤◌, ◌<◌, false, ◌||◌, List, [], ◌∷◌, ◌++◌, length, map, get_or, ap, sym, refl, ◌∙◌, arith, inl, inr, Option, Some, None, Result, Ok, Err}
-use mathlib.Core.Path.{subst, ap₂}
-use Rattle.std.specs.Prelude.{All, IsSomeAnd, IsTrue, slice_get}
+use Rattle.std.proofs.Common.{◌≡◌, ◌≢◌, ℕ, suc, ◌-◌, ◌*◌, ◌≤◌, ◌<◌, List, [], ◌∷◌, ◌++◌, length, map, get_or, ap, sym, refl, ◌∙◌, arith, inl, inr, Option, Some, None, Vec, Global}
+use mathlib.Core.Path.{subst}
+use Rattle.std.specs.Prelude.{All, IsTrue, slice_get}
 use Rattle.std.specs.Option.{option_and_then}
 use Rattle.std.proofs.lemmas.List.{length-map}
 use Rattle.std.proofs.lemmas.List.Elements.{All-nil, All-cons, All-head, All-tail, All-weaker, All-map}
 use Rattle.std.proofs.lemmas.List.Kept.{AllPairs-cons}
 use Rattle.std.proofs.lemmas.Option.{slice_get_within}
 use Rattle.grd_base.specs.declared.bits.Bits.{Bits}
-use Rattle.grd_base.specs.declared.ids.AtomId.{AtomId}
 use Rattle.grd_base.specs.declared.ids.ActionId.{ActionId}
 use Rattle.grd_base.specs.declared.ids.GoalId.{GoalId}
 use Rattle.grd_base.specs.declared.limits.Bound.TheVariants.{Steps, Never}
@@ -16,28 +15,27 @@ use Rattle.grd_base.specs.Bits.{members}
 use Rattle.grd_base.specs.Counts.{AllDistinct}
 use Rattle.grd_base.proofs.SameLemmas.{same_by_members}
 use Rattle.strips_model.specs.Values.{PlainTask, IsTask}
-use Rattle.strips_model.specs.Plans.{State, set_of, step_without, after, start_of, goal_holds, Reaches, IsPlan, IsOver}
-use Rattle.strips_model.specs.Reached.{IsNear, IsNearWithin}
+use Rattle.strips_model.specs.Plans.{State, step_without, after, start_of, goal_holds}
+use Rattle.strips_model.specs.Reached.{IsNear}
 use Rattle.strips_model.proofs.MoveLemmas.{step_by}
 use Rattle.search_core.specs.declared.rows.KeptRow.{KeptRow}
-use Rattle.search_core.specs.Spaces.{IsPath, IsDoneWithin, Counts}
-use Rattle.search_core.specs.Answers.{IsDonePath}
-use Rattle.search_core.specs.Tables.{AreRefuted, AreCounted, HasNeverRow, unmarked}
-use Rattle.cost_certificate.specs.Tables.{HasRow as HasTableRow}
-use Rattle.cost_certificate.specs.Found.{PlainCost, IsShown, HasNothingElse}
-use Rattle.optimal_search.specs.Space.{successors_of, holds_in, level_in}
-use Rattle.optimal_search.specs.Floors.{shows_level}
-use Rattle.optimal_search.specs.Rows.{row_of}
-use Rattle.optimal_search.specs.Least.{IsLeast, IsFar, RefuteFewer}
-use Rattle.optimal_search.specs.declared.least.Least.{Least}
+use Rattle.search_core.specs.Spaces.{IsDoneWithin}
+use Rattle.search_core.specs.declared.rows.LeastAnswer.{LeastAnswer}
+use Rattle.search_core.specs.declared.rows.LeastAnswer.TheVariants as answer
+use Rattle.search_core.specs.LeastAnswers.{CountsForLeast, IsLeastPath, least_rows}
+use Rattle.optimal_search.specs.Plans.{IsLeastPlan}
+use Rattle.search_core.specs.Tables.{AreCounted, HasRow, HasNeverRow, unmarked}
+use Rattle.cost_certificate.specs.Tables.{IsRowOver}
+use Rattle.cost_certificate.specs.Rows.{PlainRow}
+use Rattle.cost_certificate.specs.Found.{PlainCost}
+use Rattle.optimal_search.specs.Space.{successors_of, holds_in, level_in, IsState}
 use Rattle.optimal_search.specs.Costs.{AreFewNear, IsRightCost}
-use Rattle.optimal_search.proofs.SpaceLaws.{IsState, walk_leads, reaches_done, counts_near}
-use Rattle.optimal_search.proofs.TakenLemmas.{at_push}
-use Rattle.optimal_search.proofs.RowLaws.{rows_state, rows_in_task, rows_valid, has_row, has_never, states_unmarked}
-
--- a shortest path of the space of the task, or none
-abbrev pub IsLeastOf : {W : ℕ} {M : Type 0} → PlainTask → GoalId → List ActionId → Bits W → ℕ → Least (Bits W) M → Type 0
-IsLeastOf t g removed s limit found = IsLeast (successors_of t removed) (holds_in t g) (level_in t g removed) (shows_level t g removed) s limit found
+use Rattle.optimal_search.specs.Oracles.{Knows, AreRight, known_by}
+use Rattle.optimal_search.specs.Rows.{row_of, table_for}
+use Rattle.optimal_search.proofs.SpaceLaws.{some_and, least_near}
+use Rattle.optimal_search.proofs.ListLemmas.{at_push}
+use Rattle.optimal_search.proofs.AskLaws.{start_state, rows_right, least_plan, least_cost, never_cost}
+use Rattle.optimal_search.proofs.RowLaws.{right_valid, rows_in_task, states_unmarked, known_row, bound_known, row_bound, never_bound}
 
 -- the actions of a sequence that leads somewhere are actions of the task
 pub in_range : (t : PlainTask) (removed : List ActionId) (p : List ActionId) (x u : State) → after t removed x p ≡ Some u → All (λ a. a.0 < length t.actions) p
@@ -60,121 +58,121 @@ distinct_map f R apart (x ∷ xs) each distinct =
     (All-map (λ y. f x ≢ y) f xs (λ k d low same. distinct 0 (suc k) d (omega arith) (omega (arith, low)) (apart x (get_or xs k d) (All-head R x xs each) (All-tail R x xs each k d low) same)))
     (distinct_map f R apart xs (All-tail R x xs each) (λ i j d low high. distinct (suc i) (suc j) d (omega (arith, low)) (omega (arith, high))))
 
--- states of the task have atoms of the task alone
-pub rows_over : {W : ℕ} {M : Type 0} (t : PlainTask) (found rows : List (KeptRow (Bits W) M)) → found ≡ rows → All (λ row. IsState t row.state) rows → All (λ row. IsOver t (members row.state)) found
-rows_over t found rows same each =
-    subst (λ xs. All (λ row. IsOver t (members row.state)) xs) (sym same) (All-weaker (λ row. IsState t row.state) (λ row. IsOver t (members row.state)) (λ row state. state.over) rows each)
+module _ {W : ℕ} (t : PlainTask) (g : GoalId) (is : IsTask t) (wide : t.atoms ≤ 64 * W) (s : Bits W) (state : IsState t s) (begins : members s ≡ start_of t)
+    (limit : ℕ) (rows : List (KeptRow (Bits W) (List (List ActionId)))) (right : AreRight t g [] rows) where
+  -- the states of the rows without a mark count for the least path
+  abbrev AreCountedRows : Type 0
+  AreCountedRows = AreCounted (successors_of t []) (CountsForLeast (successors_of t []) (holds_in t g) (level_in t g []) s) s limit rows
 
-module _ {W : ℕ} (t : PlainTask) (g : GoalId) (is : IsTask t) (wide : t.atoms ≤ 64 * W) (s : Bits W) (state : IsState t s) (begins : members s ≡ start_of t) where
-  -- a path of the space leads from the start to its end
-  pub path_leads : (path : List ActionId) (u : Bits W) → IsPath (successors_of t []) s path u → after t [] (start_of t) path ≡ Some (members u)
-  path_leads path u p =
-      ap (λ x. after t [] x path) (sym begins) ∙ ap (after t [] (members s)) (sym p.carries) ∙ walk_leads t [] is wide s p.walk state p.steps ∙ ap (λ (x : Bits W). Some (members x)) p.ends
+  -- few states are kept, and each is near
+  few_near : AreCountedRows → AreFewNear t g limit (map (row_of t []) rows)
+  few_near counted =
+      let states : List (Bits W) = unmarked rows in
+      let same = states_unmarked t g [] is wide rows right.states in
+      let count : Bits W → Type 0 = CountsForLeast (successors_of t []) (holds_in t g) (level_in t g []) s in
+      record {
+        near = subst (λ sets. All (IsNear t g) sets) (sym same)
+            (All-map (IsNear t g) members states
+            (All-weaker count (λ x. IsNear t g (members x)) (λ x counts. (least_near t [] is wide g s x state begins counts).1) states counted.count));
+        distinct = subst (λ sets. AllDistinct sets) (sym same)
+            (distinct_map members (IsState t) (λ x y at_x at_y. same_by_members x y at_x.whole at_y.whole) states
+            (All-weaker count (IsState t) (λ x counts. (least_near t [] is wide g s x state begins counts).0) states counted.count) counted.distinct);
+        few = omega (arith, ap length same, length-map states (members {W = W}), counted.few);
+      }
 
-  -- a path to a done state is a plan
-  pub path_plan : (r limit : ℕ) (path : List ActionId) → IsDonePath (successors_of t []) (holds_in t g) s r limit path → IsPlan t g [] path
-  path_plan r limit path p = subst (λ o. IsSomeAnd o (λ u. IsTrue (goal_holds t g u))) (sym (path_leads path p.end p.leads)) p.done
+  none_near : AreFewNear t g limit []
+  none_near = record { near = All-nil (IsNear t g); distinct = λ i j d low high. absurd (omega (arith, high)); few = omega arith }
 
-  -- where a plan is, a done state is
-  plan_done : (p : List ActionId) → IsPlan t g [] p → IsDoneWithin (successors_of t []) (holds_in t g) s (length p)
-  plan_done p plan = reaches_done t [] is wide g s p state (subst (λ x. Reaches t g [] x p) (sym begins) plan)
-
-  -- what is near within fewer steps than any plan has is near
-  pub within_near : (r : ℕ) → IsFar (successors_of t []) (holds_in t g) s r → (u : State) → IsNearWithin t g [] (members s) r u → IsNear t g u
-  within_near r far u within = record {
-    path = within.path;
-    leads = ap (λ x. after t [] x within.path) (sym begins) ∙ within.leads;
-    level = within.level;
-    level_is = within.level_is;
-    within = λ c cost. let low : r ≤ length cost.0.0 = far (length cost.0.0) (plan_done cost.0.0 cost.0.2) in omega (arith, low, within.near, cost.0.1);
+  -- a least path, with rows that refute fewer steps, shows the cost
+  pub path_right : (plan : List ActionId) → IsLeastPath (successors_of t []) (holds_in t g) s limit plan → (0 < length plan → HasRow rows s (length plan - 1)) → AreCountedRows
+      → IsRightCost t g limit (record { cost = Some (length plan); plan = plan; table = table_for t [] plan rows })
+  path_right [] found there counted = record {
+    cost = least_cost t g [] is wide s state begins limit [] found;
+    within_limit = omega arith;
+    shown = (least_plan t g [] is wide s state begins limit [] found, refl);
+    alone = refl;
+    kept = none_near;
+    over = All-nil (IsRowOver t);
+  }
+  path_right (a ∷ plan) found there counted = record {
+    cost = least_cost t g [] is wide s state begins limit (a ∷ plan) found;
+    within_limit = found.within_limit;
+    shown = (
+      least_plan t g [] is wide s state begins limit (a ∷ plan) found,
+      refl,
+      right_valid t g [] is wide rows right,
+      known_row t [] rows (start_of t) (Steps (length plan))
+          (subst (λ (x : State). Knows (known_by t rows) x (Steps (length plan))) begins (bound_known t rows s (Steps (length plan)) state.over (row_bound rows s (length plan) (let has : HasRow rows s (suc (length plan) - 1) = there (omega arith) in subst (HasRow rows s) (omega arith) has)))),
+    );
+    alone = tt;
+    kept = few_near counted;
+    over = rows_in_task t g [] is wide rows;
   }
 
-  module _ {M : Type 0} (limit : ℕ) (rows : List (KeptRow (Bits W) M)) where
-    module _ (r : ℕ) (far : IsFar (successors_of t []) (holds_in t g) s r) (counted : AreCounted (successors_of t []) (level_in t g []) s r limit rows) where
-      -- the states of the rows are states of the task
-      each_state : All (λ row. IsState t row.state) rows
-      each_state = rows_state t g [] is wide rows s r limit state counted
+  -- where there is none, rows that refute any number of steps show it
+  pub never_right : ((n : ℕ) → IsDoneWithin (successors_of t []) (holds_in t g) s n → ⊥) → HasNeverRow rows s → AreCountedRows
+      → IsRightCost t g limit (record { cost = None; plan = []; table = map (row_of t []) rows })
+  never_right never there counted = record {
+    cost = never_cost t g [] is wide s state begins never;
+    within_limit = tt;
+    alone = refl;
+    shown = (
+      right_valid t g [] is wide rows right,
+      known_row t [] rows (start_of t) Never (subst (λ (x : State). Knows (known_by t rows) x Never) begins (bound_known t rows s Never state.over (never_bound rows s there))),
+    );
+    kept = few_near counted;
+    over = rows_in_task t g [] is wide rows;
+  }
 
-      -- few states are kept, and each is near
-      few_near : AreFewNear t g limit (map (row_of t g []) rows)
-      few_near =
-          let states : List (Bits W) = unmarked rows in
-          let same = states_unmarked t g [] is wide rows each_state in
-          let count : Bits W → Type 0 = Counts (successors_of t []) (level_in t g []) s r in
-          record {
-            near = subst (λ sets. All (IsNear t g) sets) (sym same)
-                (All-map (IsNear t g) members states
-                (All-weaker count (λ x. IsNear t g (members x)) (λ x counts. within_near r far (members x) (counts_near t [] is wide g s x r state counts).1) states counted.count));
-            distinct = subst (λ sets. AllDistinct sets) (sym same)
-                (distinct_map members (IsState t) (λ x y at_x at_y. same_by_members x y at_x.whole at_y.whole) states
-                (All-weaker count (IsState t) (λ x counts. (counts_near t [] is wide g s x r state counts).0) states counted.count) counted.distinct);
-            few = omega (arith, ap length same, length-map states (members {W = W}), counted.few);
-          }
+-- what was found is right, by whatever names it has
+pub cost_same : {W : ℕ} (t : PlainTask) (g : GoalId) (limit : ℕ) (plan taken : List ActionId) (rows items : List (KeptRow (Bits W) (List (List ActionId)))) (removed : List ActionId) (table : List PlainRow) (n : ℕ)
+    → length plan ≡ n → taken ≡ plan → items ≡ rows → removed ≡ [] → table ≡ table_for t removed taken items → IsRightCost t g limit (record { cost = Some (length plan); plan = plan; table = table_for t [] plan rows })
+    → IsRightCost t g limit (record { cost = Some n; plan = plan; table = table })
+cost_same t g limit plan taken rows items removed table n long same_plan same_rows none made right =
+    let table_is : table ≡ table_for t [] plan rows =
+    made ∙ ap (λ (p : List ActionId). table_for t removed p items) same_plan ∙ ap (table_for t removed plan) same_rows ∙ ap (λ (r : List ActionId). table_for t r plan rows) none in
+    subst (λ found. IsRightCost t g limit (record { cost = Some n; plan = plan; table = found })) (sym table_is)
+    (subst (λ m. IsRightCost t g limit (record { cost = Some m; plan = plan; table = table_for t [] plan rows })) long right)
 
-    -- the table of a path shows the cost
-    path_shown : (plan : List ActionId) (n : ℕ) → IsPlan t g [] plan → length plan ≡ n → IsFar (successors_of t []) (holds_in t g) s n
-        → RefuteFewer (successors_of t []) (holds_in t g) (level_in t g []) (shows_level t g []) s limit n rows → IsShown t g [] plan (map (row_of t g []) rows) (Some n)
-    path_shown plan zero is_plan long far none = (is_plan, long)
-    path_shown plan (suc r) is_plan long far fewer =
-        let states = each_state r (λ k done. let low : suc r ≤ k = far k done in omega (arith, low)) fewer.2 in
-        (is_plan, long, rows_valid t g [] is wide rows states fewer.0, subst (λ x. HasTableRow (map (row_of t g []) rows) x (Steps r)) begins (has_row t g [] is wide rows s r states fewer.1))
+pub none_same : {W : ℕ} (t : PlainTask) (g : GoalId) (limit : ℕ) (rows items : List (KeptRow (Bits W) (List (List ActionId)))) (removed : List ActionId) (table : List PlainRow) (plan : List ActionId)
+    → plan ≡ [] → items ≡ rows → removed ≡ [] → table ≡ map (row_of t removed) items → IsRightCost t g limit (record { cost = None; plan = []; table = map (row_of t []) rows })
+    → IsRightCost t g limit (record { cost = None; plan = plan; table = table })
+none_same t g limit rows items removed table plan empty same_rows none made right =
+    let table_is : table ≡ map (row_of t []) rows = made ∙ ap (map (row_of t removed)) same_rows ∙ ap (λ (r : List ActionId). map (row_of t r) rows) none in
+    subst (λ found. IsRightCost t g limit (record { cost = None; plan = plan; table = found })) (sym table_is)
+    (subst (λ p. IsRightCost t g limit (record { cost = None; plan = p; table = map (row_of t []) rows })) (sym empty) right)
 
-    -- nothing stands beside them
-    path_alone : (plan : List ActionId) (n : ℕ) → RefuteFewer (successors_of t []) (holds_in t g) (level_in t g []) (shows_level t g []) s limit n rows
-        → HasNothingElse plan (map (row_of t g []) rows) (Some n)
-    path_alone plan zero none = ap (map (row_of t g [])) none
-    path_alone plan (suc r) fewer = tt
+-- rows that are right without removed actions are so for a set of none
+pub right_slice : {W : ℕ} (t : PlainTask) (g : GoalId) (removed : List ActionId) (rows items : List (KeptRow (Bits W) (List (List ActionId)))) → removed ≡ [] → items ≡ rows → AreRight t g [] rows → AreRight t g removed items
+right_slice t g removed rows items none same right = subst (λ xs. AreRight t g removed xs) (sym same) (subst (λ r. AreRight t g r rows) (sym none) right)
 
-    -- the states of the rows of a path are states of the task
-    pub path_states : (n : ℕ) → IsFar (successors_of t []) (holds_in t g) s n
-        → RefuteFewer (successors_of t []) (holds_in t g) (level_in t g []) (shows_level t g []) s limit n rows → All (λ row. IsState t row.state) rows
-    path_states zero far none = subst (λ found. All (λ row. IsState t row.state) found) (sym none) (All-nil (λ row. IsState t row.state))
-    path_states (suc r) far fewer = each_state r (λ k done. let low : suc r ≤ k = far k done in omega (arith, low)) fewer.2
+module _ {W : ℕ} (t : PlainTask) (g : GoalId) (is : IsTask t) (wide : t.atoms ≤ 64 * W) (limit : ℕ) where
+  -- the first state of what was found is the start
+  first_state : (answer : LeastAnswer (Bits W) (List (List ActionId))) (found : IsLeastPlan t g [] limit answer) → IsState t found.first
+  first_state answer found = start_state t found.first is found.whole found.begins
 
-    -- few states are kept for a path
-    path_few : (n : ℕ) → IsFar (successors_of t []) (holds_in t g) s n
-        → RefuteFewer (successors_of t []) (holds_in t g) (level_in t g []) (shows_level t g []) s limit n rows → AreFewNear t g limit (map (row_of t g []) rows)
-    path_few zero far none =
-        subst (λ found. AreFewNear t g limit (map (row_of t g []) found)) (sym none)
-        (record { near = All-nil (IsNear t g); distinct = λ i j d low high. absurd (omega (arith, high)); few = omega arith })
-    path_few (suc r) far fewer = few_near r (λ k done. let low : suc r ≤ k = far k done in omega (arith, low)) fewer.2
+  -- the rows of what was found are right
+  pub rows_found : (answer : LeastAnswer (Bits W) (List (List ActionId))) → IsLeastPlan t g [] limit answer → AreRight t g [] (least_rows answer)
+  rows_found answer found = rows_right t g [] is wide found.first (first_state answer found) (least_rows answer) found.refuted found.counted.reached
 
-    -- a shortest path, with rows that refute fewer steps, shows the cost
-    pub path_right : (plan : List ActionId) → IsDonePath (successors_of t []) (holds_in t g) s (length plan) limit plan
-        → IsFar (successors_of t []) (holds_in t g) s (length plan)
-        → RefuteFewer (successors_of t []) (holds_in t g) (level_in t g []) (shows_level t g []) s limit (length plan) rows
-        → IsRightCost t g limit (record { cost = Some (length plan); plan = plan; table = map (row_of t g []) rows })
-    path_right plan path far fewer =
-        let is_plan = path_plan (length plan) limit plan path in
-        record {
-          cost = ((plan, refl, is_plan), λ p other. far (length p) (plan_done p other));
-          within_limit = path.within_limit;
-          shown = path_shown plan (length plan) is_plan refl far fewer;
-          alone = path_alone plan (length plan) fewer;
-          kept = path_few (length plan) far fewer;
-          over = rows_in_task t g [] is wide rows;
-        }
+  -- a path that was found is a plan of the task's actions
+  pub plan_found : (plan : Vec ActionId Global) (rows : Vec (KeptRow (Bits W) (List (List ActionId))) Global) → IsLeastPlan t g [] limit (answer.Found plan rows) → All (λ a. a.0 < length t.actions) plan.items
+  plan_found plan rows found =
+      let plans = least_plan t g [] is wide found.first (first_state (answer.Found plan rows) found) found.begins limit plan.items found.right in
+      let end = some_and (after t [] (start_of t) plan.items) (λ u. IsTrue (goal_holds t g u)) plans in
+      in_range t [] plan.items (start_of t) end.0 end.1
 
-    -- the states of the rows that refute any number of steps are states of the task
-    pub nowhere_states : ((n : ℕ) → IsDoneWithin (successors_of t []) (holds_in t g) s n → ⊥)
-        → (r : ℕ) × AreCounted (successors_of t []) (level_in t g []) s r limit rows → All (λ row. IsState t row.state) rows
-    nowhere_states none counted = each_state counted.0 (λ k done. absurd (none k done)) counted.1
+  -- it is right, with the table of its rows
+  pub path_found : (plan : Vec ActionId Global) (rows : Vec (KeptRow (Bits W) (List (List ActionId))) Global) → IsLeastPlan t g [] limit (answer.Found plan rows)
+      → IsRightCost t g limit (record { cost = Some (length plan.items); plan = plan.items; table = table_for t [] plan.items rows.items })
+  path_found plan rows found =
+      path_right t g is wide found.first (first_state (answer.Found plan rows) found) found.begins limit rows.items (rows_found (answer.Found plan rows) found) plan.items found.right found.start found.counted
 
-    -- where there is none, rows that refute any number of steps show it
-    pub nowhere_right : ((n : ℕ) → IsDoneWithin (successors_of t []) (holds_in t g) s n → ⊥)
-        → AreRefuted (successors_of t []) (holds_in t g) (shows_level t g []) rows → HasNeverRow rows s
-        → (r : ℕ) × AreCounted (successors_of t []) (level_in t g []) s r limit rows → IsRightCost t g limit (record { cost = None; plan = []; table = map (row_of t g []) rows })
-    nowhere_right none refuted never counted =
-        let far : IsFar (successors_of t []) (holds_in t g) s counted.0 = λ k done. absurd (none k done) in
-        let states = each_state counted.0 far counted.1 in
-        record {
-          cost = λ p plan. none (length p) (plan_done p plan);
-          within_limit = tt;
-          alone = refl;
-          shown = (rows_valid t g [] is wide rows states refuted, subst (λ x. HasTableRow (map (row_of t g []) rows) x Never) begins (has_never t g [] is wide rows s states never));
-          kept = few_near counted.0 far counted.1;
-          over = rows_in_task t g [] is wide rows;
-        }
+  -- and so is that there is none
+  pub never_found : (rows : Vec (KeptRow (Bits W) (List (List ActionId))) Global) → IsLeastPlan t g [] limit (answer.Never rows)
+      → IsRightCost t g limit (record { cost = None; plan = []; table = map (row_of t []) rows.items })
+  never_found rows found =
+      never_right t g is wide found.first (first_state (answer.Never rows) found) found.begins limit rows.items (rows_found (answer.Never rows) found) found.right found.start found.counted
 
 -- what is found of one goal more
 pub right_push : (t : PlainTask) (limit : ℕ) (xs ys : List PlainCost) (y : PlainCost) (i : ℕ) → ys ≡ xs ++ y ∷ [] → length xs ≡ i → IsRightCost t (record { 0 = i }) limit y

@@ -1,11 +1,7 @@
 mod StepLaws
 pub mod SpaceLaws
+pub mod ListLemmas
 mod RowLaws
-mod OracleLaws
-mod KeptLaws
 pub mod AskLaws
 mod KeptLemmas
-pub mod TakenLemmas
-mod LeastLemmas
 mod CostLaws
-mod LeftLemmas

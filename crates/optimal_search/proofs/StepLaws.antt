@@ -1,23 +1,21 @@
 -- The steps of a task between states that are bit sets.
-use Rattle.std.proofs.Common.{◌≡◌, ℕ, zero, suc, ◌+◌, ◌*◌, ◌/◌, ◌%◌, ◌<◌, ◌≤◌, Bool, true, false, cond, eqb, not, ◌&&◌, ◌||◌, List, [], ◌∷◌, ◌++◌, length, take, get_or, refl, sym, ◌∙◌, ap, subst, inl, inr, arith, Option, Some, None}
-use Rattle.std.specs.Prelude.{Contains, All, filter, IsTrue, if◌then◌else◌}
-use Rattle.std.specs.Int.{bit_at}
+use Rattle.std.proofs.Common.{◌≡◌, ℕ, zero, suc, ◌+◌, ◌*◌, ◌<◌, ◌≤◌, Bool, true, false, cond, not, ◌&&◌, ◌||◌, List, [], ◌∷◌, ◌++◌, length, take, get_or, refl, sym, ◌∙◌, ap, subst, inl, inr, arith, Option, Some, None}
+use Rattle.std.specs.Prelude.{Contains, All, filter}
 use Rattle.std.specs.Option.{option_map}
 use Rattle.std.specs.List.{filter_map, cons_option}
 use Rattle.std.proofs.lemmas.List.{take_more, take_all}
-use Rattle.std.proofs.lemmas.Bool.{ne_eqb, false≢true, cases_lt, cases_Bool}
+use Rattle.std.proofs.lemmas.Bool.{ne_eqb, cases_Bool}
 use Rattle.std.proofs.lemmas.Option.{slice_get_within, get_or_from_slice_get}
 use Rattle.std.proofs.lemmas.List.Elements.{All-head, All-tail, All-get_or, All-filter, filter_passes, filter_map-append, Contains-append_right, Contains-append_cases, Contains-push_cases}
 use Rattle.grd_base.specs.declared.bits.Bits.{Bits}
 use Rattle.grd_base.specs.declared.ids.AtomId.{AtomId}
 use Rattle.grd_base.specs.declared.ids.ActionId.{ActionId}
 use Rattle.grd_base.specs.Rising.{has_id}
-use Rattle.grd_base.specs.Sets.{IsSubset}
-use Rattle.grd_base.specs.Bits.{has, members, bits_of, words_of, IsWhole}
+use Rattle.grd_base.specs.Bits.{members, bits_of, IsWhole}
 use Rattle.grd_base.proofs.BitsLemmas.{has_past}
-use Rattle.grd_base.proofs.PackedLemmas.{word_bits, words_at, words_wide, words_fit, words_have}
+use Rattle.grd_base.proofs.PackedLemmas.{words_wide, words_fit, words_have}
 use Rattle.strips_model.specs.Values.{PlainTask, IsTask, IsActionBelow, GroundAction}
-use Rattle.strips_model.specs.Plans.{State, set_of, is_step, step, step_without, effect, IsOver}
+use Rattle.strips_model.specs.Plans.{State, set_of, is_step, step, step_without, effect}
 use Rattle.strips_model.specs.Moves.{allowed_of}
 use Rattle.strips_model.proofs.MoveLemmas.{allowed_good, step_by, step_allowed, IsStepBy, allowed_step}
 use Rattle.strips_model.proofs.StepLemmas.{no_step}
@@ -83,6 +81,10 @@ module _ {X Y : Type 0} (f : X → Option Y) (p : X → Bool) (none : (x : X) �
         | inr is ↦ ap (λ b. filter_map f (cond b (x ∷ filter p xs) (filter p xs))) is ∙ rest ∙ sym (ap (λ o. cons_option o (filter_map f xs)) (none x is))
       ]
 
+-- no number from the bound on is in the state
+abbrev pub HasNoneFrom : ℕ → State → Type 0
+HasNoneFrom bound s = (n : ℕ) → bound ≤ n → s n ≡ false
+
 -- no number from the bound on is in a set of atoms below it
 set_over : (bound : ℕ) (xs : List AtomId) (n : ℕ) → All (λ a. a.0 < bound) xs → bound ≤ n → set_of xs n ≡ false
 set_over bound [] n below past = refl
@@ -91,23 +93,24 @@ set_over bound (x ∷ xs) n below past =
     let rest : set_of xs n ≡ false = set_over bound xs n (All-tail (λ a. a.0 < bound) x xs below) past in
     ap (λ b. b || set_of xs n) (ne_eqb x.0 n (λ same. absurd (omega (arith, first)))) ∙ rest
 
--- after an action over the atoms of the task there are no other atoms
-effect_over : (t : PlainTask) (act : GroundAction) (s : State) → IsActionBelow t.atoms act → IsOver t s → IsOver t (effect act s)
-effect_over t act s below over n past = none (set_of act.del n) (s n) (set_of act.add n) (over n past) (set_over t.atoms act.add n below.add.below past)
+-- after an action over the atoms of the task there are no other atoms, nor any from a greater bound on that
+-- were not there before
+effect_over : (t : PlainTask) (act : GroundAction) (s : State) (bound : ℕ) → t.atoms ≤ bound → IsActionBelow t.atoms act → HasNoneFrom bound s → HasNoneFrom bound (effect act s)
+effect_over t act s bound low below over n past = none (set_of act.del n) (s n) (set_of act.add n) (over n past) (set_over t.atoms act.add n below.add.below (omega (arith, low, past)))
   where
     none : (deleted before added : Bool) → before ≡ false → added ≡ false → ((not deleted && before) || added) ≡ false
     none true before added out absent = absent
     none false before added out absent = ap (λ b. b || added) out ∙ absent
 
--- a step keeps the states of the task
-pub step_over : (t : PlainTask) (removed : List ActionId) (s u : State) (a : ActionId) → IsTask t → IsOver t s → step_without t removed s a ≡ Some u → IsOver t u
-step_over t removed s u a is over leads =
+-- a step keeps the states of the task, and those below any greater bound
+pub step_over : (t : PlainTask) (removed : List ActionId) (s u : State) (a : ActionId) (bound : ℕ) → IsTask t → t.atoms ≤ bound → HasNoneFrom bound s → step_without t removed s a ≡ Some u → HasNoneFrom bound u
+step_over t removed s u a bound is low over leads =
     let by : IsStepBy t removed s a u = step_by t removed s a u leads in
     let below : IsActionBelow t.atoms by.action =
     subst (IsActionBelow t.atoms) (get_or_from_slice_get t.actions a.0 by.action by.action by.at)
     (All-get_or (IsActionBelow t.atoms) t.actions a.0 by.action (slice_get_within t.actions a.0 by.action by.at) is.actions) in
-    let P : State → Type 0 = λ v. IsOver t v in
-    subst P (sym by.leads) (effect_over t by.action s below over)
+    let P : State → Type 0 = λ v. HasNoneFrom bound v in
+    subst P (sym by.leads) (effect_over t by.action s bound low below over)
 
 -- what a table finds are the actions that apply in the state
 pub found_are : (t u : PlainTask) (removed found items : List ActionId) (s : State) → items ≡ found → found ≡ applicable_of u removed s → u ≡ t → items ≡ applicable_of t removed s
@@ -144,30 +147,15 @@ pub packed_whole : {W : ℕ} (u : State) → IsWhole (bits_of {W = W} u)
 unfolding bits_of
 packed_whole {W} u = record { wide = words_wide u 0 W; fits = words_fit u 0 W }
 
--- the bit set that is made of a state over the atoms of the task has its members
-pub packed_members : (W : ℕ) (t : PlainTask) (u : State) → t.atoms ≤ 64 * W → IsOver t u → members (bits_of {W = W} u) ≡ u
+-- the bit set that is made of a state of numbers that it holds has its members
+pub packed_members : (W : ℕ) (u : State) → HasNoneFrom (64 * W) u → members (bits_of {W = W} u) ≡ u
 unfolding members bits_of
-packed_members W t u wide over = words_have u W (λ n past. over n (omega arith))
+packed_members W u over = words_have u W (λ n past. over n (omega arith))
 
--- the bit set that is made of a set has no other members
-pub packed_within : (W : ℕ) (u : State) → IsSubset (members (bits_of {W = W} u)) u
-unfolding members bits_of has
-packed_within W u n member = elim (cases_lt n (64 * W)) as (λ _. IsTrue (u n)) [
-  | inl within ↦
-      let place : n / 64 < W = omega arith in
-      let low : n % 64 < 64 = omega arith in
-      let is : 64 * (0 + n / 64) + n % 64 ≡ n = omega arith in
-      let bits : bit_at (get_or (words_of u 0 W) (n / 64) 0) (n % 64) ≡ (if u n then 1 else 0) =
-      ap (λ x. bit_at x (n % 64)) (words_at u 0 W (n / 64) place) ∙ word_bits u (64 * (0 + n / 64)) 64 (n % 64) low ∙ ap (λ m. if u m then 1 else 0) is in
-      by (u n) (ap (λ x. eqb x 1) (sym bits) ∙ member)
-  | inr past ↦
-      let wide : length (words_of u 0 W) ≡ W = words_wide u 0 W in
-      absurd (false≢true (sym (has_past (words_of u 0 W) n (omega (arith, past, wide))) ∙ member))
-]
-  where
-    by : (b : Bool) → eqb (if b then 1 else 0) 1 ≡ true → b ≡ true
-    by true e = refl
-    by false e = e
+-- a whole bit set holds no greater numbers
+pub whole_below : {W : ℕ} (s : Bits W) → IsWhole s → HasNoneFrom (64 * W) (members s)
+unfolding members
+whole_below {W} s whole n past = has_past s.words n (omega (arith, whole.wide, past))
 
 -- the steps by all the actions that were found are the successors
 pub all_steps : {W : ℕ} (t : PlainTask) (removed found : List ActionId) (s : Bits W) (i : ℕ) (steps : List (ActionId × Bits W))

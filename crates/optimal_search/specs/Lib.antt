@@ -1,7 +1,7 @@
 pub mod Promise
 pub mod Space
 pub mod Floors
-pub mod Least
+pub mod Plans
 pub mod Rows
 pub mod Costs
 pub mod Oracles

@@ -4,11 +4,9 @@
 -- The space of a task, a goal and removed actions.
 pub use Rattle.optimal_search.specs.Space.{labelled_step, successors_of, holds_in, level_in, PlainSpace}
 -- What makes the space a space and its floor a floor.
-pub use Rattle.optimal_search.specs.Floors.{bits_same, IsLevelBound, shows_level, AreEnough, IsLevelProof}
-pub use Rattle.optimal_search.specs.Floors.{level_admissible}
--- Rows of states as rows of a table.
-pub use Rattle.optimal_search.specs.Rows.{why_of, row_at, rows_kept}
+pub use Rattle.optimal_search.specs.Floors.{bits_same, ShowsBound, AreEnough, ProvesBound, bound_admissible}
 -- What `costs` answers for a goal.
 pub use Rattle.optimal_search.specs.Costs.{AreFewNear, IsRightCost}
--- What an oracle is asked about, and what it keeps.
-pub use Rattle.optimal_search.specs.Oracles.{PlainOracle, IsAlike, HasAllOf, IsSoundOracle, HasStartRow}
+-- What an oracle is asked about, and what it knows.
+pub use Rattle.optimal_search.specs.Oracles.{KnownBound, PlainOracle, IsAlike, Knows, KnowsAllOf, bound_of_row}
+pub use Rattle.optimal_search.specs.Oracles.{IsSoundOracle, KnowsCost}

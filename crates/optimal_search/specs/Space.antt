@@ -5,12 +5,17 @@ use Rattle.std.specs.List.{filter_map}
 use Rattle.grd_base.specs.declared.bits.Bits.{Bits}
 use Rattle.grd_base.specs.declared.ids.ActionId.{ActionId}
 use Rattle.grd_base.specs.declared.ids.GoalId.{GoalId}
-use Rattle.grd_base.specs.Bits.{members, bits_of}
+use Rattle.grd_base.specs.Bits.{members, bits_of, IsWhole}
 use Rattle.strips_model.specs.Values.{PlainTask}
-use Rattle.strips_model.specs.Plans.{step, goal_holds}
+use Rattle.strips_model.specs.Plans.{step, goal_holds, IsOver}
 use Rattle.strips_model.specs.Moves.{allowed_of}
 use Rattle.strips_model.specs.Levels.{level_at}
-use Rattle.level_bounds.specs.Floors.{PlainFloor, IsFloorOf}
+use Rattle.cut_bounds.specs.CutFloors.{PlainCutFloor, IsCutFloorOf}
+
+-- a state of the task, as a program holds it
+pub record IsState {W : ℕ} (t : PlainTask) (s : Bits W) : Type 0 where
+  pub whole : IsWhole s
+  pub over : IsOver t (members s)
 
 -- the step of the action from the state, where it applies
 abbrev pub labelled_step : {W : ℕ} → PlainTask → Bits W → ActionId → Option (ActionId × Bits W)
@@ -36,11 +41,11 @@ pub record PlainSpace : Type 0 where
 
 -- what every space keeps: its states hold the atoms of the task, and its table and its floor are those of
 -- the task, the floor for the goal without the removed actions
-pub record IsSpaceOf (W : ℕ) (t : PlainTask) (g : GoalId) (removed : List ActionId) (table : PlainTask) (floor : PlainFloor) : Type 0 where
+pub record IsSpaceOf (W : ℕ) (t : PlainTask) (g : GoalId) (removed : List ActionId) (table : PlainTask) (floor : PlainCutFloor) : Type 0 where
   pub width : W ≤ 64
   pub atoms : t.atoms ≤ 64 * W
   pub goal_in : g.0 < length t.goals
   pub table_of : table ≡ t
-  pub floor_of : IsFloorOf t floor
+  pub floor_of : IsCutFloorOf t floor
   pub floor_goal : floor.goal ≡ g
   pub floor_removed : floor.removed ≡ removed

@@ -3,15 +3,17 @@ ghost use Rattle.grd_base.specs.Counts.{MoreThan};
 ghost use Rattle.strips_model.specs.Reached.{IsNear, IsNearWithout};
 ghost use Rattle.cost_certificate.specs.Found.{PlainCost};
 ghost use Rattle.optimal_search.specs.Costs.{IsRightCost};
-ghost use Rattle.optimal_search.specs.Oracles.{IsLeastPlan};
+ghost use Rattle.optimal_search.specs.Oracles.{AreRight};
+ghost use Rattle.optimal_search.specs.Plans.{IsLeastPlan};
+ghost use Rattle.optimal_search.specs.Rows.{table_for};
 
 use crate::faults::GoalSearchFault;
-use crate::least::{Least, find_least};
 use crate::rows::table_of;
 use crate::space::{SpaceFloor, TaskSpace};
-use cost_certificate::CostFound;
-use grd_base::{ActionSet, Bits, GoalId, Limits, OutOfMemory, by_width, whole};
-use search_core::SearchFault;
+use cost_certificate::{CostFound, Table};
+use cut_bounds::CutMark;
+use grd_base::{ActionId, ActionSet, Bits, GoalId, Limits, OutOfMemory, by_width, whole};
+use search_core::{KeptRow, LeastAnswer, SearchFault, least};
 use std::alloc::Global;
 use strips_model::{Task, fits, known_task, start};
 
@@ -20,8 +22,7 @@ pub(crate) fn least_plan<const W: usize>(
     alloc: Global,
     space: &TaskSpace<W>,
     states: u32,
-) -> Result<Least<Bits<W>, ()>, SearchFault>
-    requires { states ≤ 1000000 }
+) -> Result<LeastAnswer<Bits<W>, CutMark>, SearchFault>
     ensures least { IfOk result
         (IsLeastPlan space.now.task space.now.goal space.now.removed states) }
     ensures many { result ≡ Err SearchFault.TooManyStates
@@ -29,10 +30,28 @@ pub(crate) fn least_plan<const W: usize>(
 {
     let task = space.task();
     known_task(task);
-    fits(task);
     let first = start(task);
     whole(&first);
-    find_least(alloc, space, &SpaceFloor, first, states, task.atoms)
+    least(alloc, space, &SpaceFloor, first, states)
+}
+
+/// The table of a path's rows; an empty path needs none.
+fn table_below<const W: usize>(
+    alloc: Global,
+    space: &TaskSpace<W>,
+    plan: &[ActionId],
+    rows: &[KeptRow<Bits<W>, CutMark>],
+) -> Result<Table, OutOfMemory>
+    requires width { W ≤ 64 }
+    requires right { AreRight space.now.task space.now.goal space.now.removed rows.now }
+    ensures { IfOk result (λ table. table ≡ table_for space.now.task space.now.removed plan.now rows.now) }
+{
+    if plan.is_empty() {
+        return Ok(Table {
+            rows: Vec::new(alloc),
+        });
+    }
+    table_of(alloc, space, rows)
 }
 
 /// The cost that was found, with the path as a plan and the rows as a table.
@@ -40,8 +59,9 @@ fn shown_cost<const W: usize>(
     alloc: Global,
     space: &TaskSpace<W>,
     states: u32,
-    found: Least<Bits<W>, ()>,
+    found: LeastAnswer<Bits<W>, CutMark>,
 ) -> Result<CostFound, OutOfMemory>
+    requires width { W ≤ 64 }
     requires states { states ≤ 1000000 }
     requires removed { space.now.removed ≡ [] }
     requires least { IsLeastPlan space.now.task space.now.goal [] states found }
@@ -50,15 +70,15 @@ fn shown_cost<const W: usize>(
 {
     known_task(space.task());
     match found {
-        Least::Path(plan, rows) => {
-            let table = table_of(alloc, space, rows.as_slice())?;
+        LeastAnswer::Found(plan, rows) => {
+            let table = table_below(alloc, space, plan.as_slice(), rows.as_slice())?;
             Ok(CostFound {
                 cost: Some(plan.len() as u32),
                 plan,
                 table,
             })
         }
-        Least::Nowhere(rows) => {
+        LeastAnswer::Never(rows) => {
             let table = table_of(alloc, space, rows.as_slice())?;
             Ok(CostFound {
                 cost: None,

@@ -9,8 +9,7 @@
 //!
 //! | file | what it does |
 //! |---|---|
-//! | `space.rt` | makes a task, a goal and removed actions a space, with the level as its floor |
-//! | `least.rt` | finds the nearest done state of any space, by passes over `within` |
+//! | `space.rt` | makes a task, a goal and removed actions a space, with the cuts of `cut_bounds` as its floor |
 //! | `rows.rt` | turns the rows of a search into rows of a table |
 //! | `cost.rt` | finds the cost of each goal by these |
 //! | `kept.rt` | keeps states, each with the best bound that was proved for it |
@@ -25,7 +24,6 @@
 mod cost;
 mod faults;
 mod kept;
-mod least;
 mod oracle;
 mod rows;
 mod space;

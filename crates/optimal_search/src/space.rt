@@ -1,10 +1,12 @@
 ghost use Rattle.std.specs.Prelude.{◌≡◌, ◌*◌, ◌<◌, ◌≤◌, length, IfOk};
+ghost use Rattle.grd_base.specs.declared.limits.Bound.{Bound};
 ghost use Rattle.grd_base.specs.Bits.{members};
 ghost use Rattle.strips_model.specs.Plans.{IsOver};
-ghost use Rattle.level_bounds.specs.Floors.{family_of};
+ghost use Rattle.strips_model.specs.Values.{AreAtoms};
+ghost use Rattle.cut_bounds.specs.CutMarks.{IsCutMark, sets_around};
 
+use cut_bounds::{CutFloor, CutMark};
 use grd_base::{ActionId, ActionSet, Bits, Bound, GoalId, OutOfMemory, packed, whole};
-use level_bounds::LevelFloor;
 use search_core::{Floor, Space};
 use std::alloc::Global;
 use std::marker::Model;
@@ -20,7 +22,7 @@ pub struct TaskSpace<'t, const W: usize> {
     goal: GoalId,
     removed: &'t ActionSet,
     table: SuccTable<'t>,
-    floor: LevelFloor,
+    floor: CutFloor,
 }
 
 impl<'t, const W: usize> Model for TaskSpace<'t, W> {
@@ -49,7 +51,7 @@ impl<'t, const W: usize> TaskSpace<'t, W> {
         ensures removed { IfOk result (λ space. space.removed ≡ removed.now) }
     {
         let table = SuccTable::build(alloc, task)?;
-        let floor = LevelFloor::new(alloc, task, goal, removed)?;
+        let floor = CutFloor::new(alloc, task, goal, removed)?;
         Ok(TaskSpace {
             task,
             goal,
@@ -68,13 +70,19 @@ impl<'t, const W: usize> TaskSpace<'t, W> {
         self.task
     }
 
-    /// The family that shows the level of the goal at a state of the task.
-    pub(crate) fn family_at(&self, alloc: Global, s: &Bits<W>) -> Result<Family, OutOfMemory>
+    /// For each list of the mark the atoms that are reached around it, from a state of the task.
+    pub(crate) fn family_at(
+        &self,
+        alloc: Global,
+        s: &Bits<W>,
+        mark: &CutMark,
+    ) -> Result<Family, OutOfMemory>
         requires over { IsOver self.now.task (members s.now) }
-        ensures { IfOk result (λ family.
-            family ≡ family_of self.now.task self.now.goal self.now.removed (members s.now)) }
+        requires shows { (bound : Bound) × IsCutMark self.now.task self.now.goal self.now.removed (members s.now) mark.now bound }
+        ensures { IfOk result
+            (λ family. family ≡ sets_around self.now.task self.now.removed (members s.now) mark.now) }
     {
-        self.floor.family_at(alloc, self.task, s)
+        self.floor.family_at(alloc, self.task, s, mark)
     }
 }
 
@@ -114,32 +122,33 @@ impl<'t, const W: usize> Space for TaskSpace<'t, W> {
     }
 }
 
-/// The floor of a space: the level of its goal. It asks the one that the space keeps.
+/// The floor of a space: lists of actions, one of each on every way to its goal. It asks the floor that the
+/// space keeps.
 #[derive(Drop)]
 pub struct SpaceFloor;
 
 impl<'t, const W: usize> Floor<TaskSpace<'t, W>> for SpaceFloor {
-    type Mark = ();
+    type Mark = CutMark;
 
     type Why = Family;
 
-    ghost use Rattle.optimal_search.specs.Floors.{shows_level, IsLevelProof, level_admissible};
+    ghost use Rattle.optimal_search.specs.Floors.{ShowsBound, ProvesBound, bound_admissible};
 
-    ghost shows = { λ _ space s mark bound. shows_level space.task space.goal space.removed s mark bound };
+    ghost shows = { λ _ space s mark bound. ShowsBound space.task space.goal space.removed s mark bound };
 
-    ghost proves = { λ _ space s family bound. IsLevelProof space.task space.goal space.removed s family bound };
+    ghost proves = { λ _ space s family bound. ProvesBound space.task space.goal space.removed s family bound };
 
-    ghost admissible = { λ _ space s _ bound is. level_admissible _ _ _ s bound is };
+    ghost admissible = { λ _ space s mark bound is. bound_admissible _ _ _ s mark bound is };
 
     fn at_least(
         &self,
         alloc: Global,
         space: &TaskSpace<'t, W>,
         s: &Bits<W>,
-    ) -> Result<(Bound, ()), OutOfMemory> {
+    ) -> Result<(Bound, CutMark), OutOfMemory> {
         known_task(space.task);
-        let bound = space.floor.bound_at(alloc, space.task, s)?;
-        Ok((bound, ()))
+        whole(s);
+        space.floor.cuts_at(alloc, space.task, s)
     }
 
     fn why(
@@ -147,9 +156,9 @@ impl<'t, const W: usize> Floor<TaskSpace<'t, W>> for SpaceFloor {
         alloc: Global,
         space: &TaskSpace<'t, W>,
         s: &Bits<W>,
-        _mark: &(),
+        mark: &CutMark,
     ) -> Result<Family, OutOfMemory> {
         known_task(space.task);
-        space.floor.family_at(alloc, space.task, s)
+        space.floor.family_at(alloc, space.task, s, mark)
     }
 }

@@ -21,8 +21,8 @@ use Rattle.cost_certificate.specs.declared.found.Verdict.{Verdict}
 use Rattle.cost_certificate.specs.Found.{PlainCost}
 use Rattle.cost_certificate.specs.Rows.{PlainRow}
 use Rattle.cost_certificate.specs.Tables.{HasRow, IsRowOver, IsValidTable}
-use Rattle.optimal_search.specs.Oracles.{PlainOracle, IsAlike, IsSoundOracle}
-use Rattle.optimal_search.proofs.TakenLemmas.{at_push}
+use Rattle.optimal_search.specs.Oracles.{PlainOracle, IsAlike}
+use Rattle.optimal_search.proofs.ListLemmas.{at_push}
 use Rattle.strips_model.specs.Observed.{observed_task, read_as}
 use Rattle.cost_certificate.specs.Verdicts.{ShowsNo, plain_verdict, IsRightVerdict}
 
@@ -85,20 +85,20 @@ module _ (t : PlainTask) (os : List ActionId) (x : PlainOracle) (made : x.task �
           have = All-weaker (Near (observed_task t os) [] (start_of (observed_task t os))) (IsNearObserved t os x.goal) (near_observed t os x.goal c cost) more.items near;
         }
 
-    -- where it finds no path, the goal is not recognised, as its rows show
-    pub no_right : (y : PlainOracle) (table : List PlainRow) → IsAlike x y → IsSoundOracle y → All (IsRowOver y.task) y.rows → table ≡ y.rows → HasRow y.rows s (Steps c)
+    -- where it finds no path, the goal is not recognised, as a table of what it knows shows
+    pub no_right : (y : PlainOracle) (table : List PlainRow) → IsAlike x y → IsValidTable y.task y.goal y.removed table → All (IsRowOver y.task) table → HasRow table s (Steps c)
         → ((p : List ActionId) → Reaches x.task x.goal x.removed s p → c < length p) → (IsRecognised t x.goal os ↔ IsCost (observed_task t os) x.goal [] (Some c))
         → (IsRecognised t x.goal os → ⊥) × ShowsNo (observed_task t os) x.goal table (Some c)
-    no_right y table alike sound over rows row longer law =
+    no_right y table alike is_valid over row longer law =
         let task : y.task ≡ observed_task t os = sym alike.task ∙ made in
         let removed : y.removed ≡ [] = sym alike.removed ∙ none in
-        let by_task : IsValidTable (observed_task t os) y.goal y.removed y.rows = subst (λ (u : PlainTask). IsValidTable u y.goal y.removed y.rows) task sound in
-        let by_goal : IsValidTable (observed_task t os) x.goal y.removed y.rows = subst (λ (h : GoalId). IsValidTable (observed_task t os) h y.removed y.rows) (sym alike.goal) by_task in
-        let valid : IsValidTable (observed_task t os) x.goal [] y.rows = subst (λ (xs : List ActionId). IsValidTable (observed_task t os) x.goal xs y.rows) removed by_goal in
-        let from : HasRow y.rows (start_of (observed_task t os)) (Steps c) = subst (λ (v : State). HasRow y.rows v (Steps c)) from_start row in
-        let each : All (IsRowOver (observed_task t os)) y.rows = subst (λ (u : PlainTask). All (IsRowOver u) y.rows) task over in (
+        let by_task : IsValidTable (observed_task t os) y.goal y.removed table = subst (λ (u : PlainTask). IsValidTable u y.goal y.removed table) task is_valid in
+        let by_goal : IsValidTable (observed_task t os) x.goal y.removed table = subst (λ (h : GoalId). IsValidTable (observed_task t os) h y.removed table) (sym alike.goal) by_task in
+        let valid : IsValidTable (observed_task t os) x.goal [] table = subst (λ (xs : List ActionId). IsValidTable (observed_task t os) x.goal xs table) removed by_goal in
+        let from : HasRow table (start_of (observed_task t os)) (Steps c) = subst (λ (v : State). HasRow table v (Steps c)) from_start row in
+        let each : All (IsRowOver (observed_task t os)) table = subst (λ (u : PlainTask). All (IsRowOver u) table) task over in (
           not_recognised t os x.goal c cost law (λ p plan. longer p (subst (λ (T : Type 0). T) (sym (reaches_plan p)) plan)),
-          subst (λ (xs : List PlainRow). ShowsNo (observed_task t os) x.goal xs (Some c)) (sym rows) (valid, from, each),
+          (valid, from, each),
         )
 
 -- the verdicts on the first goals are right

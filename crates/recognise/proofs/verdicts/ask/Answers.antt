@@ -1,5 +1,6 @@
 -- What the oracle of the observed task answers from its start within the cost.
 use Rattle.std.proofs.Common.{map, ap, ◌∙◌}
+use Rattle.grd_base.specs.declared.limits.Bound.TheVariants.{Steps}
 use Rattle.grd_base.specs.Bits.{members}
 use Rattle.strips_model.specs.Observed.{read_as}
 use Rattle.optimal_search.proofs.AskLaws.{passed_on}
@@ -29,6 +30,7 @@ returns-in_ok-table-in-None-clause-right g c =
     let t = c.args.task.now in
     let os = c.args.observations.now in
     let x = c.args.oracle.now in
-    no_right t os x c.requires.made c.requires.removed (members c.args.first.now) c.requires.first c.args.cost c.requires.cost c.within.new.self c.in_ok-table-in-None.field-0
-    c.within.ensures.alike c.within.ensures.sound c.in_ok-table-in-None.ensures.over c.in_ok-table-in-None.ensures.rows (rw c.in-None.is at c.in_ok-path.ensures.row) (rw c.in-None.is at c.in_ok-path.ensures.none)
-    (c.plans_embed.ensures.recognised t os x.goal c.args.cost c.known_task.ensures c.requires.cost)
+    let s = members c.args.first.now in
+    no_right t os x c.requires.made c.requires.removed s c.requires.first c.args.cost c.requires.cost c.within.new.self c.in_ok-table-in-None.field-0
+    c.within.ensures.alike c.in_ok-table-in-None.ensures.valid c.in_ok-table-in-None.ensures.over (c.in_ok-table-in-None.ensures.rows s (Steps c.args.cost) (rw c.in-None.is at c.in_ok-path.ensures.bound))
+    (rw c.in-None.is at c.in_ok-path.ensures.none) (c.plans_embed.ensures.recognised t os x.goal c.args.cost c.known_task.ensures c.requires.cost)

@@ -1,36 +1,55 @@
-use Rattle.std.proofs.Common.{rules, ◌<◌, ◌≡◌, arith, length, get_or, refl, sym, ◌∙◌, subst, Some}
-use Rattle.std.specs.Prelude.{slice_get}
-use Rattle.std.proofs.lemmas.Option.{slice_get-get_or, slice_get_read, slice_get_within}
-use Rattle.optimal_search.specs.declared.kept.ProvedBound.{ProvedBound}
-use Rattle.optimal_search.specs.Kept.{IsRaised, IsRaisedAt}
-use Rattle.optimal_search.proofs.KeptLemmas.{raised_more}
-use Rattle.grd_base.proofs.ListLemmas.{take_next}
+use Rattle.std.proofs.Common.{sym, subst, ◌∙◌, inl}
+use Rattle.std.specs.Prelude.{Contains}
+use Rattle.std.proofs.lemmas.Bool.{false≢true}
+use Rattle.grd_base.specs.declared.limits.Bound.TheVariants.{Steps}
+use Rattle.grd_base.proofs.SameLemmas.{bits_eq, bits_eq-Decides}
+use Rattle.cost_certificate.proofs.OrderLemmas.{at_most_other}
+use Rattle.optimal_search.specs.Kept.{rows_in, HasBound}
+use Rattle.optimal_search.proofs.KeptLemmas.{entry_by, set_from, set_grows, set_at, set_same, has_at, has_lower, missed}
 use Rattle.optimal_search.proofs.kept.Kept.raise.Goals as goal
 
-pub raise_to-requires : goal.raise_to-requires
-raise_to-requires g c =
-    let i = c.loop-i.i in
-    let numbers = c.args.numbers.now in
-    let states = c.args.self.now.states in
-    let row = c.index-rows-i.result in
-    let counted : i < length numbers = omega (arith, c.requires.places.0, c.loop-i-test.true) in
-    let at : slice_get states (get_or numbers i 0) ≡ Some row.state =
-    c.requires.places.1 i (get_or numbers i 0) row (slice_get-get_or numbers i 0 counted) (slice_get_read c.args.rows.now _ i row refl c.loop-i-test.true c.index-rows-i.is) in
-    (search rules, omega (arith, slice_get_within states _ row.state at, c.requires.matched, c.loop-i.invariant.raised.matched))
+pub returns-then-not-is_enough-clause-made : goal.returns-then-not-is_enough-clause-made
+returns-then-not-is_enough-clause-made g c =
+    let es = c.args.self.now.proved.entries in
+    let at = entry_by bits_eq bits_eq-Decides es c.args.row.state c.in-Some.place c.index_mut-known.result.now c.index_mut-known.ensures.value (sym c.in-Some.ensures.index) in
+    set_from es c.in-Some.place record { bound = c.args.row.bound; mark = c.args.row.mark } c.args.row.state c.index_mut-known.result.now at
 
-pub loop-i-preserved : goal.loop-i-preserved
-loop-i-preserved g c =
-    let i = c.loop-i.i in
-    let numbers = c.args.numbers.now in
-    let states = c.args.self.now.states in
-    let rows = c.args.rows.now in
-    let row = c.index-rows-i.result in
-    let counted : i < length numbers = omega (arith, c.requires.places.0, c.loop-i-test.true) in
-    let at : slice_get states (get_or numbers i 0) ≡ Some row.state =
-    c.requires.places.1 i (get_or numbers i 0) row (slice_get-get_or numbers i 0 counted) (slice_get_read rows _ i row refl c.loop-i-test.true c.index-rows-i.is) in
-    record {
-      states = c.raise_to.ensures.states ∙ c.loop-i.invariant.states;
-      raised = subst (IsRaised states c.args.self.now.bounds.items c.raise_to.new.self.bounds.items) (sym (take_next rows i row c.loop-i-test.true c.index-rows-i.is))
-          (raised_more states c.args.self.now.bounds.items c.loop-i.self.bounds.items c.raise_to.new.self.bounds.items _ row (get_or numbers i 0) at c.loop-i.invariant.raised
-          (subst (λ (p : ProvedBound). IsRaisedAt c.loop-i.self.bounds.items c.raise_to.new.self.bounds.items (get_or numbers i 0) p) c.proved_by.ensures c.raise_to.ensures.raised));
-    }
+pub returns-then-not-is_enough-clause-grows : goal.returns-then-not-is_enough-clause-grows
+returns-then-not-is_enough-clause-grows g c =
+    let es = c.args.self.now.proved.entries in
+    let at = entry_by bits_eq bits_eq-Decides es c.args.row.state c.in-Some.place c.index_mut-known.result.now c.index_mut-known.ensures.value (sym c.in-Some.ensures.index) in
+    set_grows es c.in-Some.place record { bound = c.args.row.bound; mark = c.args.row.mark } c.args.row.state c.index_mut-known.result.now at
+    (at_most_other c.args.row.bound c.index_mut-known.result.now.bound (λ low. false≢true (sym c.if-not-is_enough.true ∙ c.is_enough.ensures.1 low)))
+
+pub returns-then-not-is_enough-clause-held : goal.returns-then-not-is_enough-clause-held
+returns-then-not-is_enough-clause-held g c =
+    let es = c.args.self.now.proved.entries in
+    let at = entry_by bits_eq bits_eq-Decides es c.args.row.state c.in-Some.place c.index_mut-known.result.now c.index_mut-known.ensures.value (sym c.in-Some.ensures.index) in
+    has_at _ c.in-Some.place c.args.row.state record { bound = c.args.row.bound; mark = c.args.row.mark }
+    (set_at es c.in-Some.place record { bound = c.args.row.bound; mark = c.args.row.mark } c.args.row.state c.index_mut-known.result.now at)
+
+pub returns-else-not-is_enough-clause-made : goal.returns-else-not-is_enough-clause-made
+returns-else-not-is_enough-clause-made g c other there =
+    let es = c.args.self.now.proved.entries in
+    let at = entry_by bits_eq bits_eq-Decides es c.args.row.state c.in-Some.place c.index_mut-known.result.now c.index_mut-known.ensures.value (sym c.in-Some.ensures.index) in
+    let same = set_same es c.in-Some.place c.args.row.state c.index_mut-known.result.now at in
+    inl (subst (λ new. Contains (rows_in new) other) same there)
+
+pub returns-else-not-is_enough-clause-grows : goal.returns-else-not-is_enough-clause-grows
+returns-else-not-is_enough-clause-grows g c s bound has =
+    let es = c.args.self.now.proved.entries in
+    let at = entry_by bits_eq bits_eq-Decides es c.args.row.state c.in-Some.place c.index_mut-known.result.now c.index_mut-known.ensures.value (sym c.in-Some.ensures.index) in
+    let same = set_same es c.in-Some.place c.args.row.state c.index_mut-known.result.now at in
+    subst (λ new. HasBound (rows_in new) s bound) (sym same) has
+
+pub returns-else-not-is_enough-clause-held : goal.returns-else-not-is_enough-clause-held
+returns-else-not-is_enough-clause-held g c =
+    let es = c.args.self.now.proved.entries in
+    let at = entry_by bits_eq bits_eq-Decides es c.args.row.state c.in-Some.place c.index_mut-known.result.now c.index_mut-known.ensures.value (sym c.in-Some.ensures.index) in
+    let same = set_same es c.in-Some.place c.args.row.state c.index_mut-known.result.now at in
+    subst (λ new. HasBound (rows_in new) c.args.row.state c.args.row.bound) (sym same)
+    (has_lower (rows_in es) c.args.row.state c.args.row.bound c.index_mut-known.result.now.bound (c.is_enough.ensures.0 c.if-not-is_enough.false) (has_at es c.in-Some.place c.args.row.state c.index_mut-known.result.now at))
+
+pub returns-in_default-clause-held : goal.returns-in_default-clause-held
+returns-in_default-clause-held g c =
+    absurd (missed bits_eq bits_eq-Decides c.args.self.now.proved.entries c.args.row.state (Steps 0) (sym c.in_default.ensures.found) c.requires.entered)
