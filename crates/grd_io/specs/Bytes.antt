@@ -1,5 +1,5 @@
 -- What reads and writes do to the bytes that a device tells.
-use Rattle.std.specs.Prelude.{◌≡◌, ℕ, ◌-◌, ◌<◌, ◌≤◌, List, ◌++◌, take, drop, length, Option, Some, IfSome, IsSomeAnd}
+use Rattle.std.specs.Prelude.{◌≡◌, ℕ, ◌-◌, ◌<◌, ◌≤◌, List, [], ◌++◌, take, drop, length, Option, Some, IsSome, IfSome, IsSomeAnd}
 use Rattle.std.specs.Option.{option_map}
 
 -- the bytes that are told, if any, and behind them these
@@ -42,3 +42,31 @@ IsWholeFile told bytes = IfSome told (λ file. file ≡ Some bytes)
 -- there is a file, and it has more bytes than this, where the shelf tells
 abbrev pub IsLongerFile : Told → ℕ → Type 0
 IsLongerFile told limit = IfSome told (λ file. IsSomeAnd file (λ bytes. limit < length bytes))
+
+-- there is a file, where the shelf tells
+abbrev pub IsThere : Told → Type 0
+IsThere told = IfSome told (λ file. IsSome file)
+
+-- what is told of a file that was made empty: it has no bytes, where the shelf told of its name
+abbrev pub emptied : Told → Told
+emptied told = option_map (λ file. Some []) told
+
+-- what is told of a file that these bytes were appended to
+abbrev pub grown_file : Told → List ℕ → Told
+grown_file told more = option_map (λ file. extended file more) told
+
+-- a file took the first n bytes of a piece, and at least one of a piece that is not empty
+pub record IsAppended (before now : Told) (piece : List ℕ) (n : ℕ) : Type 0 where
+  pub within : n ≤ length piece
+  pub some : 0 < length piece → 0 < n
+  pub grown : now ≡ grown_file before (take n piece)
+
+-- a file took a part of a piece, from its front, and not all of it
+pub record IsPartlyAppended (before now : Told) (piece : List ℕ) : Type 0 where
+  pub n : ℕ
+  pub within : n < length piece
+  pub grown : now ≡ grown_file before (take n piece)
+
+-- every file but that of this name is told as before
+abbrev pub OthersStay : (List ℕ → Told) → (List ℕ → Told) → List ℕ → Type 0
+OthersStay before now name = (x : List ℕ) → (x ≡ name → ⊥) → now x ≡ before x

@@ -29,6 +29,14 @@ impl From<OutOfMemory> for ShelfFault {
     }
 }
 
+impl From<AllocError> for ShelfFault {
+    ghost from_gives = { λ _ fault. fault ≡ ShelfOutOfMemory };
+
+    fn from(_error: AllocError) -> ShelfFault {
+        ShelfFault::OutOfMemory
+    }
+}
+
 /// Why a file was not read whole.
 #[derive(Clone, Copy, Debug, PartialEq, Eq, Error)]
 pub enum ReadFault {

@@ -1,5 +1,5 @@
-ghost use Rattle.std.specs.Prelude.{◌≡◌, ℕ, List, length, Bool, false, Option, IfOk};
-ghost use Rattle.grd_io.specs.Bytes.{IsReadAt};
+ghost use Rattle.std.specs.Prelude.{◌≡◌, ℕ, List, length, Bool, true, false, Option, IfOk, IsOk, IsErr};
+ghost use Rattle.grd_io.specs.Bytes.{IsReadAt, IsThere, IsAppended, emptied, OthersStay};
 ghost use Rattle.grd_io.specs.Causes.{HasShelfCause};
 
 use crate::faults::ShelfFault;
@@ -18,4 +18,19 @@ pub trait Shelf {
         ensures read { IfOk result (IsReadAt (told self.old name.now) from (length into.old) into.new) }
         ensures files_stay { (x : List ℕ) → told self.new x ≡ told self.old x }
         ensures cause { HasShelfCause ShelfFault.Failed (faults self.old) (faults self.new) name.now false result };
+
+    /// Makes the file, without bytes. A file that was there is emptied.
+    fn create(&mut self, name: &str) -> Result<(), ShelfFault>
+        ensures made { IsOk result → told self.new name.now ≡ emptied (told self.old name.now) }
+        ensures others_stay { OthersStay (told self.old) (told self.new) name.now }
+        ensures refused { IsErr result → (x : List ℕ) → told self.new x ≡ told self.old x }
+        ensures cause { HasShelfCause ShelfFault.Failed (faults self.old) (faults self.new) name.now true result };
+
+    /// Appends bytes from the front of the piece to the file, and answers how many.
+    fn append(&mut self, name: &str, piece: &[u8]) -> Result<usize, ShelfFault>
+        requires there { IsThere (told self.old name.now) }
+        ensures taken { IfOk result (IsAppended (told self.old name.now) (told self.new name.now) piece.now) }
+        ensures others_stay { OthersStay (told self.old) (told self.new) name.now }
+        ensures refused { IsErr result → (x : List ℕ) → told self.new x ≡ told self.old x }
+        ensures cause { HasShelfCause ShelfFault.Failed (faults self.old) (faults self.new) name.now true result };
 }

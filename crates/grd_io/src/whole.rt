@@ -1,5 +1,5 @@
-ghost use Rattle.std.specs.Prelude.{◌≡◌, ℕ, ◌+◌, ◌<◌, ◌≤◌, List, drop, length, min, Bool, false, IfOk, OnOk, OnErr, IsErrOf, vec_len};
-ghost use Rattle.grd_io.specs.Bytes.{extended, IsReadAt, IsWholeFile, IsLongerFile, IsPartlyTaken};
+ghost use Rattle.std.specs.Prelude.{◌≡◌, ℕ, ◌+◌, ◌<◌, ◌≤◌, List, take, drop, length, min, Bool, true, false, IfOk, OnOk, OnErr, IsErrOf, vec_len};
+ghost use Rattle.grd_io.specs.Bytes.{extended, grown_file, IsReadAt, IsThere, IsWholeFile, IsLongerFile, IsPartlyTaken, IsPartlyAppended, OthersStay};
 ghost use Rattle.grd_io.specs.Causes.{HasCause, HasShelfCause};
 
 use crate::faults::{Failed, ReadFault, ShelfFault};
@@ -58,6 +58,21 @@ fn read_some<F: Shelf>(
     shelf.read_at(name, from, front)
 }
 
+/// Appends all of a piece to a file. It takes no memory of its own.
+pub fn append_whole<F: Shelf>(shelf: &mut F, name: &str, piece: &[u8]) -> Result<(), ShelfFault>
+    requires there { IsThere (F.told shelf.old name.now) }
+    ensures whole { OnOk result (F.told shelf.new name.now ≡ grown_file (F.told shelf.old name.now) piece.now) }
+    ensures refused { OnErr result (IsPartlyAppended (F.told shelf.old name.now) (F.told shelf.new name.now) piece.now) }
+    ensures others_stay { OthersStay (F.told shelf.old) (F.told shelf.new) name.now }
+    ensures cause { HasShelfCause ShelfFault.Failed (F.faults shelf.old) (F.faults shelf.new) name.now true result }
+{
+    let mut done = 0;
+    while done < piece.len() {
+        done += shelf.append(name, rest_of(piece, done))?;
+    }
+    Ok(())
+}
+
 /// Writes all of a piece. It takes no memory.
 pub fn write_whole<O: Sink>(sink: &mut O, piece: &[u8]) -> Result<(), Failed>
     ensures whole { OnOk result (O.written sink.new ≡ extended (O.written sink.old) piece.now) }
@@ -77,4 +92,12 @@ pub(crate) fn rest_of(piece: &[u8], done: usize) -> &[u8]
     ensures { result.now ≡ drop done piece.now }
 {
     &piece[done..]
+}
+
+/// The first bytes of a piece.
+pub(crate) fn front_of(piece: &[u8], n: usize) -> &[u8]
+    requires { n ≤ length piece.now }
+    ensures { result.now ≡ take n piece.now }
+{
+    &piece[..n]
 }

@@ -1,8 +1,10 @@
 use grd_io::{
-    Failed, HostShelf, HostSink, MemoryShelf, MemorySink, ReadFault, Shelf, read_whole, write_whole,
+    Failed, HostShelf, HostSink, MemoryShelf, MemorySink, ReadFault, Shelf, ShelfFault,
+    append_whole, read_whole, write_whole,
 };
 use std::alloc::{AllocError, Global};
 use std::fs;
+use std::rt::Files;
 use std::test::Fail;
 
 /// The byte at a place of `many_bytes`. No two neighbours are equal.
@@ -118,6 +120,149 @@ fn files_of_the_host_are_written_and_read(rt: HostRuntime) -> Result<(), Fail> {
     for (name, limit, want) in HOST_READS {
         let found = count_read(rt.alloc(), &mut shelf, name, *limit);
         assert_eq!(rt; found, *want, "{name}");
+    }
+    fs::remove_file(&rt, "grd_io_empty")?;
+    fs::remove_file(&rt, "grd_io_long")?;
+    Ok(())
+}
+
+/// Makes a file where no piece is given, and else appends the piece to it.
+fn put<R: Files>(
+    shelf: &mut HostShelf<'_, R>,
+    name: &str,
+    piece: Option<&str>,
+) -> Result<(), ShelfFault> {
+    match piece {
+        None => shelf.create(name),
+        Some(piece) => append_whole(shelf, name, piece.as_bytes()),
+    }
+}
+
+/// Files of the host that are made, pieces that are appended to them, and what comes of it.
+const HOST_WRITES: &[(&str, Option<&str>, Result<(), ShelfFault>)] = &[
+    // No file was made yet.
+    ("grd_io_made", Some("early"), Err(ShelfFault::Failed)),
+    ("grd_io_made", None, Ok(())),
+    ("grd_io_made", Some("gone"), Ok(())),
+    // What was there is gone.
+    ("grd_io_made", None, Ok(())),
+    ("grd_io_made", Some("one "), Ok(())),
+    ("grd_io_made", Some(""), Ok(())),
+    ("grd_io_made", Some("two "), Ok(())),
+    // Names that can't be made: in no folder, under a file, of a folder, and in a folder where
+    // nobody makes files.
+    ("grd_io_no_folder/made", None, Err(ShelfFault::Failed)),
+    ("grd_io_made/under", None, Err(ShelfFault::Failed)),
+    (".", None, Err(ShelfFault::Failed)),
+    ("/proc/grd_io_made", None, Err(ShelfFault::Failed)),
+    // The file that was made last takes bytes still, and no other does.
+    ("grd_io_made", Some("three"), Ok(())),
+    ("grd_io_other", None, Ok(())),
+    ("grd_io_made", Some("late"), Err(ShelfFault::Failed)),
+    ("grd_io_made", Some(""), Ok(())),
+    ("grd_io_other", Some("end"), Ok(())),
+];
+
+/// Whether a file of a shelf has just these bytes.
+fn holds<F: Shelf>(
+    alloc: Global,
+    shelf: &mut F,
+    name: &str,
+    bytes: &[u8],
+) -> Result<bool, ReadFault> {
+    let found = read_whole(alloc, shelf, name, 100)?;
+    Ok(found.as_slice() == bytes)
+}
+
+/// What the files hold then.
+const HOST_TEXTS: &[(&str, &str)] = &[("grd_io_made", "one two three"), ("grd_io_other", "end")];
+
+#[test]
+fn files_of_the_host_are_made_and_grow(rt: HostRuntime) -> Result<(), Fail> {
+    let mut shelf = HostShelf::new(&rt, rt.alloc());
+    for (name, piece, want) in HOST_WRITES {
+        assert_eq!(rt; put(&mut shelf, name, *piece), *want, "{name}");
+    }
+    for (name, text) in HOST_TEXTS {
+        assert_eq!(rt;
+            holds(rt.alloc(), &mut shelf, name, text.as_bytes()),
+            Ok(true),
+            "{name}"
+        );
+        fs::remove_file(&rt, *name)?;
+    }
+    Ok(())
+}
+
+/// How many bytes the devices are given, and how many of a step's calls take them.
+const LEN: u32 = 100;
+
+const STEPS: &[(usize, u64)] = &[(1, 100), (8, 13), (64, 2)];
+
+/// How a file was made, written and read, where the call of a number fails: whether all calls
+/// passed, and how many right bytes the file has then.
+fn made_in_steps(
+    alloc: Global,
+    step: usize,
+    failing: u64,
+) -> Result<(bool, Option<u32>), AllocError> {
+    let files = vec![in alloc; (String::from_str(alloc, "kept")?, many_bytes(alloc, 7)?)]?;
+    let mut shelf = MemoryShelf::in_steps(alloc, files, vec![in alloc; failing]?, step.max(1));
+    let bytes = many_bytes(alloc, LEN)?;
+    let passed = is_made(alloc, &mut shelf, &bytes);
+    Ok((passed, shelf.file("made").map(count_same)))
+}
+
+/// Makes, writes and reads a file of a shelf, and answers whether no call failed.
+fn is_made(alloc: Global, shelf: &mut MemoryShelf, bytes: &[u8]) -> bool {
+    if shelf.create("made").is_err() {
+        return false;
+    }
+    if append_whole(shelf, "made", bytes).is_err() {
+        return false;
+    }
+    count_read(alloc, shelf, "made", 100) == Ok(LEN)
+}
+
+/// The bytes that were taken before a call of a writing, from 0, that fails.
+fn taken_before(step: usize, call: u64) -> u32 {
+    call.saturating_mul(step as u64).min(LEN as u64) as u32
+}
+
+#[test]
+fn each_call_of_a_shelf_may_fail(rt: HostRuntime) -> Result<(), Fail> {
+    for (step, writes) in STEPS {
+        // One call makes the file, and one more than those that write it read it.
+        for failing in 1..2 * *writes + 4 {
+            let want = if failing == 1 {
+                None
+            } else {
+                Some(taken_before(*step, failing - 2))
+            };
+            let passed = failing > 2 * *writes + 2;
+            let found = made_in_steps(rt.alloc(), *step, failing)?;
+            assert_eq!(rt; found, (passed, want), "{step} {failing}");
+        }
+    }
+    Ok(())
+}
+
+/// Whether bytes were written to a sink where the call of a number fails, and how many it has.
+fn written_in_steps(alloc: Global, step: usize, failing: u64) -> Result<(bool, u32), AllocError> {
+    let mut sink = MemorySink::in_steps(alloc, vec![in alloc; failing]?, step.max(1));
+    let bytes = many_bytes(alloc, LEN)?;
+    let passed = write_whole(&mut sink, &bytes).is_ok();
+    Ok((passed, count_same(sink.written())))
+}
+
+#[test]
+fn each_call_of_a_sink_may_fail(rt: HostRuntime) -> Result<(), Fail> {
+    for (step, writes) in STEPS {
+        for failing in 1..*writes + 2 {
+            let want = (failing > *writes, taken_before(*step, failing - 1));
+            let found = written_in_steps(rt.alloc(), *step, failing)?;
+            assert_eq!(rt; found, want, "{step} {failing}");
+        }
     }
     Ok(())
 }
