@@ -61,7 +61,8 @@ fn has_costs(alloc: Global, sample: &Sample, states: u32, wanted: &[Plain]) -> R
 }
 
 // Seven states are reached. For each of the two atoms four of them are near, and for both at once three;
-// for atom 5 none is.
+// for atom 5 none is. A table has a row for each state that was found before the goal was reached: for one of
+// the two atoms those of the three on the way are by steps, those of the other three by cuts.
 #[test]
 fn costs_have_plans_and_tables(rt: HostRuntime) -> Result<(), Fail> {
     let rows: [(&Sample, u32, &[Plain]); 2] = [
@@ -69,8 +70,8 @@ fn costs_have_plans_and_tables(rt: HostRuntime) -> Result<(), Fail> {
             &FORK_WITH_DEAD_ENDS,
             4,
             &[
-                (Some(3), &[A, B, L], 1),
-                (Some(3), &[A, B, R], 1),
+                (Some(3), &[A, B, L], 6),
+                (Some(3), &[A, B, R], 6),
                 (None, &[], 7),
             ],
         ),
@@ -261,8 +262,9 @@ fn kept<const W: usize>(alloc: Global, asked: &Asked) -> Result<Kept, Fail>
     kept_by::<W>(alloc, &task, goal, &removed, asked)
 }
 
-// Without B no state is near. For both atoms at once three are; from atom 1 two are, and their rows are
-// by steps; those of atoms 3 and 4, from which the goal is never reached, are by cuts.
+// Without B no state is near. For both atoms at once three are, and as many count within four steps; within
+// three steps two are expanded, since from atom 2 two more are needed, one for each atom: their rows are by
+// steps, and by cuts are those of atom 2 and of the two dead ends. They answer the last question as well.
 #[test]
 fn oracle_keeps_a_valid_table(rt: HostRuntime) -> Result<(), Fail> {
     let rows: [(Asked, usize, usize); 4] = [
@@ -273,8 +275,8 @@ fn oracle_keeps_a_valid_table(rt: HostRuntime) -> Result<(), Fail> {
                 states: 4,
                 questions: &[(Cost, Ok(Some(3))), (Cost, Ok(Some(3)))],
             },
-            1,
-            0,
+            6,
+            3,
         ),
         (
             Asked {
@@ -311,11 +313,12 @@ fn oracle_keeps_a_valid_table(rt: HostRuntime) -> Result<(), Fail> {
                 states: 2,
                 questions: &[
                     (Cost, Err(SearchFault::TooManyStates)),
-                    (Steps(0, 3), Err(SearchFault::TooManyStates)),
+                    (Steps(0, 4), Err(SearchFault::TooManyStates)),
+                    (Steps(0, 3), Ok(None)),
                     (Steps(1, 2), Ok(None)),
                 ],
             },
-            4,
+            5,
             2,
         ),
     ];

@@ -10,7 +10,8 @@
 //! - `successors.rt`: the actions that apply in a state.
 //! - `levels.rt`: the levels of goals, and the sets that show them.
 //! - `observed.rt`: observed tasks.
-//! - `search.rt`: the search over any space with any floor.
+//! - `search.rt`: the search within a number of steps, over any space with any floor.
+//! - `least.rt`: the search for a least path, over any space with any floor.
 //! - `numbering.rt`: the numbers of states.
 //! - `tables.rt`: the test of tables of rows.
 //! - `costs.rt`: the costs of goals, and oracles.
@@ -24,7 +25,11 @@ mod common;
 #[cfg(test)]
 mod costs;
 #[cfg(test)]
+mod cuts;
+#[cfg(test)]
 mod definitions;
+#[cfg(test)]
+mod least;
 #[cfg(test)]
 mod levels;
 #[cfg(test)]

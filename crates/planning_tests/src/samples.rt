@@ -194,6 +194,17 @@ pub(crate) const FORK_WITH_SHUT_GOAL: Sample = Sample {
     ..FORK
 };
 
+/// A goal of two atoms, each added by an action of its own from the start.
+pub(crate) const TWO_AT_ONCE: Sample = Sample {
+    atoms: 3,
+    init: &[0],
+    actions: &[needing!([0], 1, false), needing!([0], 2, false)],
+    goals: &[Target {
+        atoms: &[1, 2],
+        blocked: false,
+    }],
+};
+
 /// Keep: its action needs atom 0, deletes it, and adds 0 and 1, which are its goal. Action 1 and goal 1
 /// are the same, but blocked.
 pub(crate) const KEEP: Sample = Sample {

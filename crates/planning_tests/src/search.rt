@@ -4,9 +4,9 @@ use std::alloc::Global;
 
 // Numbers, with steps between them by a list. The action of a step has the number that it leads to.
 #[derive(Drop)]
-struct Graph<'a> {
-    steps: &'a [(u32, u32)],
-    goal: u32,
+pub(crate) struct Graph<'a> {
+    pub steps: &'a [(u32, u32)],
+    pub goal: u32,
 }
 
 impl<'a> Space for Graph<'a> {
@@ -48,7 +48,7 @@ impl<'a> Space for Graph<'a> {
 }
 
 // A space whose levels are all 0.
-trait Flat: Space {
+pub(crate) trait Flat: Space {
     ghost use Rattle.std.specs.Prelude.{◌≡◌, Some};
 
     ghost flat: { (space : Self) (s : Self.State) → Self.level space s ≡ Some 0 };
@@ -101,7 +101,7 @@ impl<S: Flat> Floor<S> for ZeroFloor {
 
 // No step from a done state, at least one from any other, and none from one without successors.
 #[derive(Drop)]
-struct StepFloor;
+pub(crate) struct StepFloor;
 
 impl<S: Flat> Floor<S> for StepFloor {
     type Mark = ();
@@ -162,7 +162,7 @@ fn proof_of<S: Space, F: Floor<S>>(
 }
 
 // A row by its state, its bound and whether it has a mark.
-type Row = (u32, Bound, bool);
+pub(crate) type Row = (u32, Bound, bool);
 
 // What is answered.
 #[derive(Clone, Copy)]
@@ -175,7 +175,7 @@ enum Answer {
 
 use Answer::{Never, No, TooMany, Yes};
 
-fn have(rows: &[KeptRow<u32, ()>], wanted: &[Row]) -> bool {
+pub(crate) fn have(rows: &[KeptRow<u32, ()>], wanted: &[Row]) -> bool {
     rows.len() == wanted.len()
         && rows.iter().zip(wanted).all(|(row, wanted)| (row.state, row.bound, row.mark.is_some())
             == *wanted)
@@ -218,23 +218,23 @@ fn answers(
 const RING: &[(u32, u32)] = &[(0, 1), (1, 2), (2, 3), (3, 4), (4, 5), (5, 0)];
 
 // From each of 0, 1 and 2 a step leads on, and one to a state without successors.
-const DEAD_ENDS: &[(u32, u32)] = &[(0, 1), (0, 10), (1, 2), (1, 11), (2, 3), (2, 12)];
+pub(crate) const DEAD_ENDS: &[(u32, u32)] = &[(0, 1), (0, 10), (1, 2), (1, 11), (2, 3), (2, 12)];
 
 // Both ways from 0 to 3 have two steps.
-const TWO_WAYS: &[(u32, u32)] = &[(0, 1), (0, 2), (1, 3), (2, 3), (3, 4)];
+pub(crate) const TWO_WAYS: &[(u32, u32)] = &[(0, 1), (0, 2), (1, 3), (2, 3), (3, 4)];
 
 // 2 is a step away from 0, and again by way of 1.
 const SHORT_CUT: &[(u32, u32)] = &[(0, 1), (0, 2), (1, 2), (2, 0), (2, 3)];
 
-const S0: Bound = Bound::Steps(0);
+pub(crate) const S0: Bound = Bound::Steps(0);
 
-const S1: Bound = Bound::Steps(1);
+pub(crate) const S1: Bound = Bound::Steps(1);
 
-const S2: Bound = Bound::Steps(2);
+pub(crate) const S2: Bound = Bound::Steps(2);
 
-const S3: Bound = Bound::Steps(3);
+pub(crate) const S3: Bound = Bound::Steps(3);
 
-const NEVER: Bound = Bound::Never;
+pub(crate) const NEVER: Bound = Bound::Never;
 
 // A state on two ways is kept once, and one that is reached again keeps its depth.
 #[test]
