@@ -1,8 +1,8 @@
 // The limits: of the bytes of a file, of the atoms and actions of a world, and of states.
 use crate::runs::{NO_FAILURE, Wanted, done, ends, expect_run, run_on};
 use crate::samples::{
-    COST, FORK, FORK_START, PAIRS, SHOW, TRIPLES, Texts, all_switches, fork, many_objects, padded,
-    switches, traps,
+    COST, FORK, FORK_START, PAIRS, SHOW, TRIPLES, Texts, fork, many_objects, padded, switches,
+    traps,
 };
 use std::alloc::Global;
 use std::process::Abort;
@@ -201,15 +201,14 @@ fn goal_that_meets_the_limit_is_told(rt: HostRuntime) -> Result<(), Fail> {
     Ok(())
 }
 
+// The third goal has no plan, but a level at each state: all states that are reached count.
 #[test]
 fn limit_that_holds_where_none_is_given_is_told(rt: HostRuntime) -> Result<(), Fail> {
     let domain = switches(rt.alloc())?;
-    let all = all_switches(rt.alloc())?;
-    let goals = format!(in rt.alloc(); "(never)\n(p0)(p16)\n{all}\n")?;
     let texts = Texts {
         domain: domain.as_str(),
         problem: "(define (problem p) (:domain switches) (:init) (:goal (and <hypothesis>)))",
-        goals: goals.as_str(),
+        goals: "(never)\n(p0)(p15)\n(left)(right)\n",
     };
     let wanted = ends(4, "grd: limit: more than 100000 states near goal 3\n");
     expect_run(&rt, rt.alloc(), COST, texts, wanted)

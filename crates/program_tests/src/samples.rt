@@ -234,28 +234,23 @@ pub(crate) fn padded(
     Ok(padded)
 }
 
-/// A domain of 17 atoms that can each be made true by itself, so that 2^17 states are reached.
+/// A domain of 16 atoms that can each be made true by itself, and of two more of which each makes the other
+/// false: 3 times 2^16 states are reached, and in none of them are both true.
 pub(crate) fn switches(alloc: Global) -> Result<String, Fail> {
+    let mut predicates = String::new(alloc);
     let mut actions = String::new(alloc);
-    for i in 0..17u32 {
+    for i in 0..16u32 {
+        write!(predicates, "(p{i})")?;
         write!(
             actions,
             "(:action a{i} :parameters () :precondition (and) :effect (p{i}))"
         )?;
     }
-    let predicates = all_switches(alloc)?;
     Ok(format!(in alloc;
-        "(define (domain switches) (:predicates (never) {predicates}) {actions})"
+        "(define (domain switches) (:predicates (never) (left) (right) {predicates}) {actions}
+(:action l :parameters () :precondition (and) :effect (and (left) (not (right))))
+(:action r :parameters () :precondition (and) :effect (and (right) (not (left)))))"
     )?)
-}
-
-/// The 17 atoms.
-pub(crate) fn all_switches(alloc: Global) -> Result<String, Fail> {
-    let mut atoms = String::new(alloc);
-    for i in 0..17u32 {
-        write!(atoms, "(p{i})")?;
-    }
-    Ok(atoms)
 }
 
 /// Fork with 20 more actions, each from its start to a place of its own, from which nothing leads on.
