@@ -1,4 +1,4 @@
-ghost use Rattle.std.specs.Prelude.{◌≡◌, ◌<◌, ◌≤◌, [], ◌++◌, length, Some, None, IsSome, IfOk, IfSome, OnOk, OnErr, unwrap_or};
+ghost use Rattle.std.specs.Prelude.{◌≡◌, ◌-◌, ◌<◌, ◌≤◌, [], ◌++◌, length, min, Some, None, IsSome, IfOk, IfSome, OnOk, OnErr, unwrap_or};
 ghost use Rattle.std.specs.Option.{option_map};
 ghost use Rattle.grd_io.specs.Bytes.{IsReadAt};
 ghost use Rattle.grd_io.specs.Devices.{file_of, plain_files, IsChanged, IsFirstOf};
@@ -23,7 +23,7 @@ pub(crate) fn copy_from(bytes: &[u8], from: u64, into: &mut [u8], most: usize) -
     requires within { most ≤ length into.old }
     requires some { 0 < length into.old → 0 < most }
     ensures read { IsReadAt (Some (Some bytes.now)) from (length into.old) into.new result }
-    ensures most { result ≤ most }
+    ensures most { result ≡ min most (length bytes.now - from) }
 {
     if from >= bytes.len() as u64 {
         return 0;

@@ -1,4 +1,4 @@
-ghost use Rattle.std.specs.Prelude.{◌≡◌, ◌^◌, ◌<◌, ◌≤◌, [], length, take, None, true, false, IfSome, IfOk, OnOk, OnErr, IsSomeAnd, string_bytes};
+ghost use Rattle.std.specs.Prelude.{◌≡◌, ◌≢◌, ◌^◌, ◌<◌, ◌≤◌, [], length, take, Some, None, true, false, IfSome, IfOk, OnOk, OnErr, IsSomeAnd, string_bytes};
 ghost use Rattle.std.specs.Io.KnownBytes.{Appends};
 ghost use Rattle.grd_io.specs.Bytes.{IsReadAt, IsTaken, IsAppended};
 ghost use Rattle.grd_io.specs.Causes.{HasCause, HasShelfCause};
@@ -41,6 +41,7 @@ impl<W: Write> Created<W> {
         ensures some { IfSome result (λ n. 0 < n) }
         ensures taken { IfSome result (λ n. HasTaken self.old self.new name.now (take n piece.now)) }
         ensures stays { self.new.name ≡ self.old.name }
+        ensures other { self.old.name ≢ name.now → self.new ≡ self.old }
     {
         if self.name.as_str() != name {
             return None;
@@ -89,6 +90,9 @@ impl<'r, R: Files> Shelf for HostShelf<'r, R> {
         ensures read { IfOk result (IsReadAt None from (length into.old) into.new) }
         ensures cause { HasShelfCause ShelfFault.Failed (count_of self.old.failed) (count_of self.new.failed) name.now false result }
         ensures last { 2 ^ 40 < from → result ≡ Ok 0 }
+
+        // The file that was created last is so still.
+        ensures stays { self.new.created ≡ self.old.created }
     {
         if from > LAST_PLACE {
             return Ok(0);
@@ -121,7 +125,9 @@ impl<'r, R: Files> Shelf for HostShelf<'r, R> {
         // Bytes are taken by the file that was created last, and only where it has this name.
         ensures created { IfOk result (λ n. 0 < n → HaveTaken self.old.created self.new.created name.now (take n piece.now)) }
         ensures stays { created_name self.new.created ≡ created_name self.old.created }
+        ensures other { created_name self.old.created ≢ Some name.now → self.new.created ≡ self.old.created }
         ensures empty { piece.now ≡ [] → result ≡ Ok 0 }
+        ensures idle { piece.now ≡ [] → self.new.created ≡ self.old.created }
     {
         if piece.is_empty() {
             return Ok(0);
@@ -139,6 +145,7 @@ fn append_to<W: Write>(created: &mut Option<Created<W>>, name: &str, piece: &[u8
     ensures some { IfSome result (λ n. 0 < n) }
     ensures taken { IfSome result (λ n. HaveTaken created.old created.new name.now (take n piece.now)) }
     ensures stays { created_name created.new ≡ created_name created.old }
+    ensures other { created_name created.old ≢ Some name.now → created.new ≡ created.old }
 {
     match created {
         Some(file) => file.append(name, piece),

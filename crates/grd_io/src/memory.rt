@@ -1,4 +1,4 @@
-ghost use Rattle.std.specs.Prelude.{◌≡◌, ◌⊎◌, ◌<◌, ◌≤◌, [], length, min, Some, None, true, false, All, IsTrue, IsSome, IsErr, IfOk, OnOk, OnErr, IsErrOf};
+ghost use Rattle.std.specs.Prelude.{◌≡◌, ◌⊎◌, ◌-◌, ◌<◌, [], length, min, Some, None, true, false, All, IsTrue, IsSome, IsSomeAnd, IsErr, IfOk, OnOk, OnErr, IsErrOf};
 ghost use Rattle.std.specs.Option.{option_map};
 ghost use Rattle.grd_io.specs.Bytes.{IsTaken, IsReadAt, IsAppended, OthersStay};
 ghost use Rattle.grd_io.specs.Causes.{HasCause, HasShelfCause};
@@ -86,7 +86,8 @@ impl Shelf for MemoryShelf {
 
     fn read_at(&mut self, name: &str, from: u64, into: &mut [u8]) -> Result<usize, ShelfFault>
         ensures read { IfOk result (IsReadAt (Some (file_of self.old.files name.now)) from (length into.old) into.new) }
-        ensures most { IfOk result (λ n. n ≤ self.old.calls.step) }
+        ensures most { IfOk result (λ n. IsSomeAnd (file_of self.old.files name.now) (λ bytes.
+            n ≡ min (min (length into.old) self.old.calls.step) (length bytes - from))) }
         ensures files_stay { self.new.files ≡ self.old.files }
         ensures cause { HasShelfCause ShelfFault.Failed (count_of self.old.failed) (count_of self.new.failed) name.now false result }
 
@@ -208,7 +209,7 @@ impl Sink for MemorySink {
         ensures refused { OnErr result (self.new.bytes ≡ self.old.bytes) }
         ensures cause { HasCause self.old.faults self.new.faults result }
 
-        // It fails where this call is listed, and else only where room for the bytes is refused.
+        // It fails where this call is listed. It may fail elsewhere, as where room is refused.
         ensures counted { self.new.calls ≡ after_call self.old.calls }
         ensures listed { IsTrue (is_failing self.new.calls) → IsErr result }
     {
