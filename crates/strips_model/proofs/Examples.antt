@@ -1,6 +1,6 @@
 -- The definitions on worked examples, computed. Fork: from at0 by a and b to at2, and from there by
 -- l to the left end atl or by r to the right end atr. Keep: its one action deletes and adds the same
--- atom. Doors: one of two doors is open for good, and the other shut.
+-- atom. Doors: one of two doors is open for good, and the other shut. Lamp: it can be lit where it is not on.
 use Rattle.std.specs.Prelude.{◌≡◌, ℕ, zero, suc, ◌<◌, Bool, true, false, nat_eq, codes, List, [], ◌∷◌, map, Option, Some, None, refl}
 use Rattle.std.specs.Option.{option_map}
 use Rattle.std.specs.Cmp.Lexicographic.{pointwise}
@@ -8,12 +8,13 @@ use Rattle.std.proofs.Common.{inl, inr, arith, rules}
 use Rattle.grd_base.specs.declared.ids.AtomId.{AtomId}
 use Rattle.grd_base.specs.declared.ids.ActionId.{ActionId}
 use Rattle.grd_base.specs.declared.ids.GoalId.{GoalId}
-use Rattle.strips_model.specs.Values.{PlainTask, GroundAction}
+use Rattle.strips_model.specs.Values.{PlainTask, GroundAction, PlainWorld}
 use Rattle.strips_model.specs.Cuts.{cut}
 use Rattle.strips_model.specs.Agents.{Embeds}
 use Rattle.strips_model.specs.Plans.{State, set_of, is_step, step, step_without, after, goal_holds, start_of, IsCost}
+use Rattle.strips_model.specs.WorldPlans.{world_step, world_step_without, world_after, world_end}
 use Rattle.strips_model.specs.Levels.{after_rounds, grown, IsLevel}
-use Rattle.strips_model.specs.Worlds.{Instance, World, has_atom, task_of}
+use Rattle.strips_model.specs.Worlds.{Instance, World, has_atom, task_of, task_of_world}
 
 -- atoms by their names, as bytes
 abbrev Name : Type 0
@@ -222,3 +223,50 @@ no_l_then_a h = search rules
 -- one step serves one observation
 no_a_twice : Embeds (a ∷ a ∷ []) (a ∷ b ∷ l ∷ []) → ⊥
 no_a_twice h = search rules
+
+-- 'light' needs the lamp, which is atom 0, to be off, 'end' that it is on, and 'dark' switches it off
+abbrev lamp : PlainWorld
+lamp = record {
+  fluents = 2;
+  watched = atom 0 ∷ [];
+  init = [];
+  actions = (record { pre = []; absent = atom 0 ∷ []; add = atom 0 ∷ []; del = []; blocked = false })
+      ∷ (record { pre = atom 0 ∷ []; absent = []; add = atom 1 ∷ []; del = []; blocked = false })
+      ∷ (record { pre = atom 0 ∷ []; absent = []; add = []; del = atom 0 ∷ []; blocked = false })
+      ∷ [];
+  goals = (record { atoms = atom 0 ∷ []; blocked = false }) ∷ (record { atoms = atom 1 ∷ []; blocked = false }) ∷ [];
+}
+
+-- atom 2 is the complement of the lamp: true at the start, needed and deleted by 'light', added by 'dark'
+abbrev lamp_task : PlainTask
+lamp_task = record {
+  atoms = 3;
+  init = atom 2 ∷ [];
+  actions = (record { pre = atom 2 ∷ []; add = atom 0 ∷ []; del = atom 2 ∷ []; blocked = false })
+      ∷ (record { pre = atom 0 ∷ []; add = atom 1 ∷ []; del = []; blocked = false })
+      ∷ (record { pre = atom 0 ∷ []; add = atom 2 ∷ []; del = atom 0 ∷ []; blocked = false })
+      ∷ [];
+  goals = (record { atoms = atom 0 ∷ []; blocked = false }) ∷ (record { atoms = atom 1 ∷ []; blocked = false }) ∷ [];
+}
+
+lamp_is_its_task : task_of_world lamp ≡ lamp_task
+lamp_is_its_task = refl
+
+-- it can be lit, but not twice
+lit_once : option_map (λ s. map s (0 ∷ 1 ∷ [])) (world_end lamp [] (action 0 ∷ [])) ≡ Some (true ∷ false ∷ [])
+unfolding world_after world_step_without world_step
+lit_once = refl
+
+not_lit_twice : world_end lamp [] (action 0 ∷ action 0 ∷ []) ≡ None
+unfolding world_after world_step_without world_step
+not_lit_twice = refl
+
+-- where an atom that must be false is deleted and added, its complement is deleted and not added
+added_again : (task_of_world (record {
+  fluents = 1;
+  watched = atom 0 ∷ [];
+  init = [];
+  actions = (record { pre = []; absent = atom 0 ∷ []; add = atom 0 ∷ []; del = atom 0 ∷ []; blocked = false }) ∷ [];
+  goals = [];
+})).actions ≡ (record { pre = atom 1 ∷ []; add = atom 0 ∷ []; del = atom 0 ∷ atom 1 ∷ []; blocked = false }) ∷ []
+added_again = refl

@@ -8,6 +8,8 @@ pub mod StateListLemmas
 pub mod LevelLaws
 pub mod CutLaws
 pub mod LevelNumbers
+pub mod WorldLemmas
+pub mod PlanTransfer
 mod ListLemmas
 mod IndexLemmas
 mod Examples

@@ -19,6 +19,16 @@ abbrev pub IsRightWcdAmong : Plans → List ActionId → Option PlainWitness →
 IsRightWcdAmong plans removed None = IsWcdAmong plans removed None
 IsRightWcdAmong plans removed (Some w) = IsWitnessAmong plans removed w × IsWcdAmong plans removed (Some (length w.prefix))
 
+-- what was found for a goal is right: an optimal plan, or none where there is no plan
+abbrev pub IsRightAmong : Plans → GoalId → List ActionId → Option (List ActionId) → Type 0
+IsRightAmong plans g removed None = IsCostAmong plans g removed None
+IsRightAmong plans g removed (Some plan) = IsOptimalAmong plans g removed plan
+
+-- what was found is right for each of so many goals, in their order
+pub record AreRightAmong (plans : Plans) (goals : ℕ) (removed : List ActionId) (found : List (Option (List ActionId))) : Type 0 where
+  pub each_goal : length found ≡ goals
+  pub right : (k : ℕ) (x : Option (List ActionId)) → slice_get found k ≡ Some x → IsRightAmong plans (record { 0 = k }) removed x
+
 -- what is answered of a goal: its cost and, where it is recognised, a plan
 pub record PlainGoalAnswer : Type 0 where
   pub cost : Option ℕ

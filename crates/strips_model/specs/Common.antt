@@ -1,12 +1,12 @@
 -- Sequences that are common to two goals, and how long two goals can't be told apart: this project's
 -- own wording, after Keren, Gal and Karpas 2014. Two goals with the same atoms are different goals.
-use Rattle.std.specs.Prelude.{◌≡◌, ℕ, List, length, Option, Some, None, slice_get}
+use Rattle.std.specs.Prelude.{ℕ, List, length, Option}
 use Rattle.grd_base.specs.declared.ids.ActionId.{ActionId}
 use Rattle.grd_base.specs.declared.ids.GoalId.{GoalId}
 use Rattle.strips_model.specs.Values.{PlainTask, PlainWitness}
 use Rattle.strips_model.specs.Agents.{BeginsOptimalAmong, IsCommonAmong, HasPlanAmong, IsWcdAmong, KeepsCostsAmong, IsBestAmong}
-use Rattle.strips_model.specs.Answers.{IsWitnessAmong, IsRightWcdAmong}
-use Rattle.strips_model.specs.Plans.{IsPlan, IsCost, IsOptimal}
+use Rattle.strips_model.specs.Answers.{IsWitnessAmong, IsRightWcdAmong, IsRightAmong, AreRightAmong}
+use Rattle.strips_model.specs.Plans.{IsPlan}
 
 -- some optimal plan of the goal, without the removed actions, begins with the sequence
 abbrev pub BeginsOptimal : PlainTask → GoalId → List ActionId → List ActionId → Type 0
@@ -44,10 +44,8 @@ IsRightWcd t = IsRightWcdAmong (IsPlan t)
 
 -- what was found for a goal is right: an optimal plan, or none where there is no plan
 abbrev pub IsRight : PlainTask → GoalId → List ActionId → Option (List ActionId) → Type 0
-IsRight t g removed None = IsCost t g removed None
-IsRight t g removed (Some plan) = IsOptimal t g removed plan
+IsRight t = IsRightAmong (IsPlan t)
 
 -- what was found is right for each goal, in the order of the goals
-pub record AreRight (t : PlainTask) (removed : List ActionId) (found : List (Option (List ActionId))) : Type 0 where
-  pub each_goal : length found ≡ length t.goals
-  pub right : (k : ℕ) (x : Option (List ActionId)) → slice_get found k ≡ Some x → IsRight t (record { 0 = k }) removed x
+abbrev pub AreRight : PlainTask → List ActionId → List (Option (List ActionId)) → Type 0
+AreRight t = AreRightAmong (IsPlan t) (length t.goals)

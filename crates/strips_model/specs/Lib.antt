@@ -10,6 +10,7 @@ pub mod Reached
 pub mod Answers
 pub mod Common
 pub mod Worlds
+pub mod WorldPlans
 pub mod Cuts
 pub mod Moves
 pub mod Levels

@@ -26,7 +26,7 @@ pub use Rattle.strips_model.specs.Observed.{goal_with, observed_task, read_as}
 pub use Rattle.strips_model.specs.Reached.{IsReachedFor, IsNearWithout, IsNear, IsNearSlack, IsNearWithin}
 pub use Rattle.strips_model.specs.Reached.{IsNearObserved, IsHiddenPair}
 -- What contracts see of an answer about a task with observations and a budget, and when it is right.
-pub use Rattle.strips_model.specs.Answers.{IsWitnessAmong, IsRightWcdAmong, PlainGoalAnswer, PlainDesign}
+pub use Rattle.strips_model.specs.Answers.{IsWitnessAmong, IsRightWcdAmong, IsRightAmong, AreRightAmong, PlainGoalAnswer, PlainDesign}
 pub use Rattle.strips_model.specs.Answers.{PlainAnswer, IsRightYes, IsRightGoal, IsRightAnswer}
 -- Sequences that are common to two goals, and how long two goals can't be told apart.
 pub use Rattle.strips_model.specs.Common.{BeginsOptimal, IsCommon, HasPlan, IsWcd, KeepsCosts, IsBest}
@@ -34,6 +34,11 @@ pub use Rattle.strips_model.specs.Common.{IsWitness, IsRightWcd, IsRight, AreRig
 -- The task of a world.
 pub use Rattle.strips_model.specs.Worlds.{Instance, World, has_atom, places_of, numbers_of, is_blocked}
 pub use Rattle.strips_model.specs.Worlds.{action_of, goal_of, task_of}
+-- Worlds whose actions may ask that atoms be false, their plans, and their task.
+pub use Rattle.strips_model.specs.Values.{WorldAction, PlainWorld, IsWorldAction, IsWorld}
+pub use Rattle.strips_model.specs.WorldPlans.{has_none, world_can_apply, world_effect, world_step}
+pub use Rattle.strips_model.specs.WorldPlans.{world_step_without, world_after, world_goal_holds, world_end, IsWorldPlan, IsSameEnd}
+pub use Rattle.strips_model.specs.Worlds.{complements, task_action, task_of_world}
 -- Cuts.
 pub use Rattle.strips_model.specs.Cuts.{leads_out, cut, AreDisjoint, IsEmptyCut, AreApart, IsFamily}
 -- The actions over which a state is expanded.

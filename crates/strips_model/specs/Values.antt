@@ -1,5 +1,5 @@
--- What contracts see of a task: its fields, with lists in the place of vectors.
-use Rattle.std.specs.Prelude.{ℕ, ◌^◌, ◌<◌, ◌≤◌, Bool, List, length}
+-- What contracts see of a task: its fields, with lists in the place of vectors. And worlds, of which tasks are made.
+use Rattle.std.specs.Prelude.{ℕ, ◌^◌, ◌<◌, ◌≤◌, Bool, List, length, Contains}
 use Rattle.std.specs.List.{All}
 use Rattle.grd_base.specs.declared.ids.AtomId.{AtomId}
 use Rattle.grd_base.specs.declared.ids.ActionId.{ActionId}
@@ -46,6 +46,40 @@ pub record IsTask (t : PlainTask) : Type 0 where
   pub goals : All (λ g. AreAtoms t.atoms g.atoms) t.goals
   pub few_actions : length t.actions ≤ 2 ^ 21
   pub few_goals : length t.goals ≤ 32
+
+-- a ground action of a world, which may need atoms to be false as well: it needs those of pre, and that none of
+-- those of absent is true; it is blocked where a static atom is not as it needs it
+pub record WorldAction : Type 0 where
+  pub pre : List AtomId
+  pub absent : List AtomId
+  pub add : List AtomId
+  pub del : List AtomId
+  pub blocked : Bool
+
+-- a world: how many fluent atoms there are, which of them are watched, those that are true at the start, the
+-- actions and the goals. The watched atoms are those that some action may need to be false
+pub record PlainWorld : Type 0 where
+  pub fluents : ℕ
+  pub watched : List AtomId
+  pub init : List AtomId
+  pub actions : List WorldAction
+  pub goals : List Goal
+
+-- an action over the fluent atoms of a world, which needs none to be false but watched ones
+pub record IsWorldAction (w : PlainWorld) (a : WorldAction) : Type 0 where
+  pub pre : AreAtoms w.fluents a.pre
+  pub absent : AreAtoms w.fluents a.absent
+  pub add : AreAtoms w.fluents a.add
+  pub del : AreAtoms w.fluents a.del
+  pub watched : All (Contains w.watched) a.absent
+
+-- what holds of every world: its lists rise and name its own atoms, and no action needs an atom to be false that
+-- is not watched
+pub record IsWorld (w : PlainWorld) : Type 0 where
+  pub watched : AreAtoms w.fluents w.watched
+  pub init : AreAtoms w.fluents w.init
+  pub actions : All (IsWorldAction w) w.actions
+  pub goals : All (λ g. AreAtoms w.fluents g.atoms) w.goals
 
 -- a sequence, two goals and a plan of each, which may show that the sequence is common to the two
 pub record PlainWitness : Type 0 where

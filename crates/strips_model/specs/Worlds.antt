@@ -1,9 +1,12 @@
--- The task of a world: how its atoms are numbered, and what its static atoms block.
+-- The task of a world: how its atoms are numbered, and what its static atoms block; and how an atom that must be
+-- false becomes one that must be true.
 -- The atoms may be of any kind A; same tells whether two of them are one.
-use Rattle.std.specs.Prelude.{ℕ, ◌+◌, Bool, not, ◌&&◌, if◌then◌else◌, List, [], ◌∷◌, length, map}
+use Rattle.std.specs.Prelude.{ℕ, ◌+◌, Bool, not, ◌&&◌, if◌then◌else◌, List, [], ◌∷◌, ◌++◌, length, map}
 use Rattle.std.specs.List.{list_any}
 use Rattle.grd_base.specs.declared.ids.AtomId.{AtomId}
-use Rattle.strips_model.specs.Values.{GroundAction, Goal, PlainTask}
+use Rattle.grd_base.specs.Sets.{Set, minus}
+use Rattle.strips_model.specs.Values.{GroundAction, Goal, PlainTask, WorldAction, PlainWorld}
+use Rattle.strips_model.specs.Plans.{set_of}
 
 -- a ground action by its atoms, in any order, with repeats or not
 pub record Instance (A : Type 0) : Type 0 where
@@ -57,4 +60,28 @@ task_of same w = record {
   init = places_of w.at_start 0 w.fluents;
   actions = map (action_of same w) w.actions;
   goals = map (goal_of same w) w.goals;
+}
+
+-- the complements, rising, of the watched atoms in the set. Each watched atom has one, which is true where the
+-- atom is false: they are numbered behind the fluent atoms, in the order of their atoms
+abbrev pub complements : PlainWorld → Set → List AtomId
+complements w s = places_of (λ a. s a.0) w.fluents w.watched
+
+-- the action of the task: what must be false is a complement that must be true, and where a watched atom becomes
+-- true or false, its complement becomes the other
+abbrev pub task_action : PlainWorld → WorldAction → GroundAction
+task_action w act = record {
+  pre = act.pre ++ complements w (set_of act.absent);
+  add = act.add ++ complements w (minus (set_of act.del) (set_of act.add));
+  del = act.del ++ complements w (set_of act.add);
+  blocked = act.blocked;
+}
+
+-- the task of the world: at the start the complements of the watched atoms are true that are false
+abbrev pub task_of_world : PlainWorld → PlainTask
+task_of_world w = record {
+  atoms = w.fluents + length w.watched;
+  init = w.init ++ complements w (λ n. not (set_of w.init n));
+  actions = map (task_action w) w.actions;
+  goals = w.goals;
 }

@@ -15,12 +15,13 @@
 //! | `index.rt` | lists of actions by atoms |
 //! | `family.rt` | sets of atoms whose cuts are counted |
 //! | `witness.rt` | a sequence with two goals and a plan of each |
+//! | `worlds.rt` | the law that a world and its task have the same plans |
 //! | `answer.rt` | all that is answered of a task, which no call makes yet |
 //!
 //! The definitions that contracts cite, here and in the crates above, are in `specs/`: `Values.antt`;
 //! `Agents.antt` and `Answers.antt`, which speak of any relation of plans; `Plans.antt` and `Common.antt`, the
 //! same for a task; `Observed.antt`, `Levels.antt`, `Reached.antt`, `Cuts.antt`, and then `Moves.antt`,
-//! `StateLists.antt`, `Index.antt`, `Worlds.antt`.
+//! `StateLists.antt`, `Index.antt`, `Worlds.antt`, `WorldPlans.antt`.
 
 #![tactic(auto)]
 
@@ -32,6 +33,7 @@ mod moves;
 mod steps;
 mod task;
 mod witness;
+mod worlds;
 
 pub use answer::{Answer, Design, GoalAnswer};
 pub use family::Family;
@@ -41,3 +43,4 @@ pub use moves::Moves;
 pub use steps::{advance, applies, apply_in, contains_all, embeds, holds, run_plan, start};
 pub use task::{Action, Condition, Task, fits, known_task};
 pub use witness::Witness;
+pub use worlds::known_plans;
