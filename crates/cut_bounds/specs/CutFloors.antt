@@ -9,13 +9,14 @@ use Rattle.strips_model.specs.Index.{listed}
 use Rattle.level_bounds.specs.Floors.{PlainFloor, IsFloorOf}
 use Rattle.level_bounds.specs.Waves.{is_usable}
 
--- a floor: its goal, the actions that may not be used, its floor of levels, and the other actions by the
--- atoms that they add
+-- a floor: its goal, the actions that may not be used, its floor of levels, the other actions by the atoms that
+-- they add, and how many atoms each action needs
 pub record PlainCutFloor : Type 0 where
   pub goal : GoalId
   pub removed : List ActionId
   pub level : PlainFloor
   pub adders : List (List ActionId)
+  pub needs : List ℕ
 
 -- whether the action with this number adds the atom
 abbrev pub adds : PlainTask → ActionId → ℕ → Bool
@@ -33,3 +34,4 @@ pub record IsCutFloorOf (t : PlainTask) (floor : PlainCutFloor) : Type 0 where
   pub same_goal : floor.level.goal ≡ floor.goal
   pub same_removed : floor.level.removed ≡ floor.removed
   pub added : AreAdders t floor.removed (length t.actions) floor.adders
+  pub needs_sized : length floor.needs ≡ length t.actions

@@ -1,4 +1,4 @@
-ghost use Rattle.std.specs.Prelude.{◌≡◌, ℕ, ◌*◌, ◌<◌, ◌≤◌, Option, Some, List, [], ◌∷◌, length, All, IfOk, Contains, ◌↔◌, false};
+ghost use Rattle.std.specs.Prelude.{◌≡◌, ℕ, ◌*◌, ◌<◌, ◌≤◌, Option, Some, List, [], ◌∷◌, length, All, IfOk, IfSome, Contains, ◌↔◌, false};
 ghost use Rattle.grd_base.specs.declared.ids.ActionId.{ActionId};
 ghost use Rattle.grd_base.specs.declared.limits.Bound.{Bound};
 ghost use Rattle.grd_base.specs.declared.limits.Bound.TheVariants.{Steps};
@@ -13,19 +13,24 @@ ghost use Rattle.cut_bounds.specs.CutFloors.{IsCutFloorOf, AreAdders};
 
 use crate::around::family_around;
 use crate::goals::{goal_lists, lacks_more};
+use crate::landmarks::landmark_lists;
 use crate::mark::CutMark;
-use crate::rounds::level_mark;
+use crate::rounds::{level_mark, never};
 use grd_base::{ActionId, ActionSet, Bits, Bound, GoalId, OutOfMemory};
 use level_bounds::{LevelFloor, file};
 use std::alloc::Global;
 use std::marker::Model;
 use strips_model::{AtomIndex, Family, Task, known_task};
 
+/// The level up to which landmark cuts are looked for.
+const FEW_ROUNDS: u32 = 30;
+
 /// Cuts before a goal of a task without the removed actions. Each call asks for the task that it was made for.
 #[derive(Drop)]
 pub struct CutFloor {
     level: LevelFloor,
     adders: AtomIndex,
+    needs: Vec<usize>,
 }
 
 impl Model for CutFloor {
@@ -33,7 +38,7 @@ impl Model for CutFloor {
 
     ghost Value = { PlainCutFloor };
 
-    ghost view = { λ floor. record { goal = floor.level.goal; removed = floor.level.removed; level = floor.level; adders = floor.adders } };
+    ghost view = { λ floor. record { goal = floor.level.goal; removed = floor.level.removed; level = floor.level; adders = floor.adders; needs = floor.needs.items } };
 }
 
 /// The actions of the task that are neither blocked nor removed, by the atoms that they add.
@@ -86,6 +91,87 @@ fn more_cuts<const W: usize>(
     Ok((Bound::Steps(count), CutMark { lists: lists.lists }))
 }
 
+/// The better of the mark of the level and of the lists of the goal's atoms.
+fn layered_cuts<const W: usize>(
+    alloc: Global,
+    task: &Task,
+    level: &LevelFloor,
+    adders: &AtomIndex,
+    s: &Bits<W>,
+) -> Result<(Bound, CutMark), OutOfMemory>
+    requires width { W ≤ 64 }
+    requires wide { task.now.atoms ≤ 64 * W }
+    requires made { IsFloorOf task.now level.now }
+    requires adders { AreAdders task.now level.now.removed (length task.now.actions) adders.now }
+    ensures shows { IfOk result
+        (λ found. IsCutMark task.now level.now.goal level.now.removed (members s.now) found.1 found.0) }
+    ensures level { IfOk result (λ found. (rounds : Option ℕ)
+        → IsLevel task.now level.now.goal level.now.removed (members s.now) rounds → IsAtLeastLevel found.0 rounds) }
+    ensures lacking { IfOk result
+        (λ found. AddsOneAtMost task.now level.now.removed (lacking task.now level.now.goal (members s.now))
+        → IsAtLeast found.0 (length (lacking task.now level.now.goal (members s.now)))) }
+{
+    let (bound, mark) = level_mark(alloc, task, level, s)?;
+    match bound {
+        Bound::Never => Ok((Bound::Never, mark)),
+        Bound::Steps(rounds) => {
+            let found = more_cuts(alloc, task, level, adders, s, rounds, mark)?;
+            Ok(found)
+        }
+    }
+}
+
+/// The landmark cuts, where they are no fewer than the level and the atoms of the goal that the state lacks. They
+/// are looked for only where the level is low: each takes a pass back, which on long chains is long.
+fn landmark_cuts<const W: usize>(
+    alloc: Global,
+    task: &Task,
+    level: &LevelFloor,
+    adders: &AtomIndex,
+    needs: &[usize],
+    s: &Bits<W>,
+    rounds: u32,
+) -> Result<Option<(Bound, CutMark)>, OutOfMemory>
+    requires width { W ≤ 64 }
+    requires wide { task.now.atoms ≤ 64 * W }
+    requires made { IsFloorOf task.now level.now }
+    requires adders { AreAdders task.now level.now.removed (length task.now.actions) adders.now }
+    requires needs { length needs.now ≡ length task.now.actions }
+    requires level { IsLevel task.now level.now.goal level.now.removed (members s.now) (Some rounds) }
+    ensures shows { IfOk result (λ better. IfSome better
+        (λ found. IsCutMark task.now level.now.goal level.now.removed (members s.now) found.1 found.0)) }
+    ensures level { IfOk result (λ better. IfSome better (λ found. (rounds : Option ℕ)
+        → IsLevel task.now level.now.goal level.now.removed (members s.now) rounds → IsAtLeastLevel found.0 rounds)) }
+    ensures lacking { IfOk result (λ better. IfSome better
+        (λ found. IsAtLeast found.0 (length (lacking task.now level.now.goal (members s.now))))) }
+{
+    if rounds > FEW_ROUNDS {
+        return Ok(None);
+    }
+    let lists = landmark_lists(alloc, task, level, adders, needs, s)?;
+    let Ok(count) = u32::try_from(lists.lists.len()) else {
+        return Ok(None);
+    };
+    if count < rounds {
+        return Ok(None);
+    }
+    if lacks_more(task, level.goal(), s, count) {
+        return Ok(None);
+    }
+    Ok(Some((Bound::Steps(count), CutMark { lists: lists.lists })))
+}
+
+/// How many atoms each action needs.
+fn needs_of(alloc: Global, task: &Task) -> Result<Vec<usize>, OutOfMemory>
+    ensures { IfOk result (λ needs. length needs.items ≡ length task.now.actions) }
+{
+    let mut needs = Vec::with_capacity(alloc, task.actions.len())?;
+    for action in &task.actions {
+        needs.push(action.pre.len())?;
+    }
+    Ok(needs)
+}
+
 impl CutFloor {
     /// The floor of the goal, with the actions of the task by the atoms that they need and that they add.
     pub fn new(
@@ -101,7 +187,12 @@ impl CutFloor {
     {
         let level = LevelFloor::new(alloc, task, goal, removed)?;
         let adders = adders_of(alloc, task, removed)?;
-        Ok(CutFloor { level, adders })
+        let needs = needs_of(alloc, task)?;
+        Ok(CutFloor {
+            level,
+            adders,
+            needs,
+        })
     }
 
     /// A bound on the steps from the state to the goal, and lists of actions that show it.
@@ -125,11 +216,17 @@ impl CutFloor {
             → Reaches task.now self.now.goal self.now.removed (members s.now) p → MeetsBound found.0 (length p)) }
     {
         known_task(task);
-        let (bound, mark) = level_mark(alloc, task, &self.level, s)?;
-        match bound {
-            Bound::Never => Ok((Bound::Never, mark)),
-            Bound::Steps(rounds) => {
-                let found = more_cuts(alloc, task, &self.level, &self.adders, s, rounds, mark)?;
+        let (level, adders) = (&self.level, &self.adders);
+        let rounds = match level.bound_at(alloc, task, s)? {
+            Bound::Never => return Ok((Bound::Never, never(alloc)?)),
+            Bound::Steps(rounds) => rounds,
+        };
+        let needs = self.needs.as_slice();
+        let better = landmark_cuts(alloc, task, level, adders, needs, s, rounds)?;
+        match better {
+            Some(found) => Ok(found),
+            None => {
+                let found = layered_cuts(alloc, task, level, adders, s)?;
                 Ok(found)
             }
         }

@@ -42,7 +42,7 @@ fn try_atom<const W: usize>(
 }
 
 /// The atoms of the goal.
-fn atoms_of_goal<'t>(task: &'t Task, goal: GoalId) -> &'t [AtomId]
+pub(crate) fn atoms_of_goal<'t>(task: &'t Task, goal: GoalId) -> &'t [AtomId]
     requires { goal.0 < length task.now.goals }
     ensures { result.now ≡ goal_atoms task.now goal }
 {
@@ -122,7 +122,7 @@ pub(crate) fn goal_lists<const W: usize>(
 }
 
 /// No lists yet.
-fn no_lists(alloc: Global, task: &Task) -> Result<Lists, OutOfMemory>
+pub(crate) fn no_lists(alloc: Global, task: &Task) -> Result<Lists, OutOfMemory>
     ensures { IfOk result (λ lists. AreNoLists task.now lists.lists.items lists.used.items) }
 {
     let used = vec![in alloc; false; task.actions.len()]?;

@@ -13,9 +13,11 @@
 //! | `rounds.rt` | makes rounds until the goal holds, and lists the cut before each |
 //! | `zones.rt` | lists the actions that lead into a zone of atoms |
 //! | `lists.rt` | puts lists one after another that share no action |
+//! | `costs.rt` | finds what atoms cost by the max heuristic |
+//! | `landmarks.rt` | puts the lists of landmark cuts |
 //! | `goals.rt` | tries the atoms of the goal that the state lacks, each as a zone |
 //! | `around.rt` | makes the sets of the lists of a mark |
-//! | `floor.rt` | answers the better of the two marks, and its family |
+//! | `floor.rt` | answers the best of the three marks, and its family |
 //! | `laws.rt` | what a mark shows, as laws |
 //!
 //! The definitions that contracts cite are in `specs/CutMarks.antt` and `specs/CutFloors.antt`.
@@ -23,8 +25,10 @@
 #![tactic(auto)]
 
 mod around;
+mod costs;
 mod floor;
 mod goals;
+mod landmarks;
 mod laws;
 mod lists;
 mod mark;

@@ -66,7 +66,7 @@ fn cut_of<const W: usize>(
 }
 
 /// One empty list, which shows `Never`.
-fn never(alloc: Global) -> Result<CutMark, OutOfMemory>
+pub(crate) fn never(alloc: Global) -> Result<CutMark, OutOfMemory>
     ensures { IfOk result (λ mark. mark ≡ [] ∷ []) }
 {
     Ok(CutMark {

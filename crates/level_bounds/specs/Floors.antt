@@ -41,18 +41,3 @@ pub record ShowsLevel (t : PlainTask) (g : GoalId) (removed : List ActionId) (s 
   pub some : (n : ℕ) → IsLevel t g removed s (Some n)
       → (length sets ≡ n) × All (λ u. IsEmptyCut (cut t removed (set_of u)) → ⊥) sets
   pub none : IsLevel t g removed s None → (length sets ≡ 1) × All (λ u. IsEmptyCut (cut t removed (set_of u))) sets
-
--- the atoms before each of the first n rounds
-abbrev pub sets_before : PlainTask → List ActionId → State → ℕ → List (List AtomId)
-sets_before t removed s zero = []
-sets_before t removed s (suc n) = sets_before t removed s n ++ atoms_in t (after_rounds t removed s n) ∷ []
-
--- the sets that show a level: those before the rounds that lead to it; for none, the set to which the
--- rounds lead
-abbrev pub sets_of : PlainTask → List ActionId → State → Option ℕ → List (List AtomId)
-sets_of t removed s (Some n) = sets_before t removed s n
-sets_of t removed s None = atoms_in t (after_rounds t removed s t.atoms) ∷ []
-
--- the family that shows the level of the goal at a state of the task
-abbrev pub family_of : PlainTask → GoalId → List ActionId → State → List (List AtomId)
-family_of t g removed s = sets_of t removed s (level_at t g removed s)

@@ -3,6 +3,5 @@
 
 -- Bounds from levels, and the families that show them.
 pub use Rattle.level_bounds.specs.Floors.{PlainFloor, IsFloorOf, level_of, MeetsBound, ShowsLevel}
-pub use Rattle.level_bounds.specs.Floors.{sets_before, sets_of, family_of}
 -- How the rounds of a level are made.
 pub use Rattle.level_bounds.specs.Waves.{is_usable, AreFiled, AreReady}

@@ -5,7 +5,7 @@ ghost use Rattle.strips_model.specs.Values.{AreAtoms};
 ghost use Rattle.strips_model.specs.Plans.{Reaches, IsOver};
 ghost use Rattle.strips_model.specs.Cuts.{IsFamily};
 ghost use Rattle.strips_model.specs.Levels.{IsLevel, grown, after_rounds, missing};
-ghost use Rattle.level_bounds.specs.Floors.{IsFloorOf, level_of, MeetsBound, ShowsLevel, family_of};
+ghost use Rattle.level_bounds.specs.Floors.{IsFloorOf, level_of, MeetsBound, ShowsLevel};
 ghost use Rattle.level_bounds.specs.Waves.{AreReady};
 
 use crate::wave::{Wave, add_needing_state, file, grow, needing, others};
@@ -75,6 +75,20 @@ impl LevelFloor {
         &self.removed
     }
 
+    /// The actions that need nothing.
+    pub fn free(&self) -> &[ActionId]
+        ensures { result.now ≡ self.now.free }
+    {
+        self.free.as_slice()
+    }
+
+    /// The actions by the atoms that they need.
+    pub fn needed_by(&self) -> &AtomIndex
+        ensures { result.now ≡ self.now.needed_by }
+    {
+        &self.needed_by
+    }
+
     /// The level of the goal at the state, and `Never` where it has none.
     pub fn bound_at<const W: usize>(
         &self,
@@ -118,8 +132,6 @@ impl LevelFloor {
             (λ family. ShowsLevel task.now self.now.goal self.now.removed (members s.now) family) }
         ensures atoms { IfOk result (λ family. IsOver task.now (members s.now)
             → All (AreAtoms task.now.atoms) family) }
-        ensures exact { IfOk result (λ family. IsOver task.now (members s.now)
-            → family ≡ family_of task.now self.now.goal self.now.removed (members s.now)) }
     {
         known_task(task);
         let mut wave = self.first(alloc, task, s)?;

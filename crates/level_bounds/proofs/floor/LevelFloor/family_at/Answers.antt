@@ -8,7 +8,6 @@ use Rattle.strips_model.specs.Cuts.{IsFamily}
 use Rattle.level_bounds.specs.Floors.{ShowsLevel}
 use Rattle.level_bounds.specs.Waves.{AreReady}
 use Rattle.level_bounds.proofs.RoundLaws.{AreSets, told, no_sets, one_more_set, sets_family, sets_show, sets_below, last_family, last_shows, last_below}
-use Rattle.level_bounds.proofs.FamilyLaws.{sets_exact, last_exact}
 use Rattle.level_bounds.proofs.floor.LevelFloor.family_at.Goals as goal
 
 abbrev items_of : Vec AtomId Global → List AtomId
@@ -53,16 +52,6 @@ returns-then-not-branch-clause-atoms g c over =
     subst (λ sets. All (AreAtoms t.atoms) (lists sets)) (sym c.in_ok-vec.ensures.items)
     (last_below _ _ _ _ _ task _ _ c.in_ok-set.set.items c.loop-self.invariant.0 c.in_ok-set.ensures.same c.in_ok-set.ensures.atoms over)
 
-pub returns-then-not-branch-clause-exact : goal.returns-then-not-branch-clause-exact
-returns-then-not-branch-clause-exact g c over =
-    let t = c.args.task.now in
-    let f = c.args.self.now in
-    let leaves_open = told t _ f (members c.loop-self.wave.reached) _ false c.self.view_is c.holds.ensures c.loop-self-test.true in
-    let task : IsTask t = c.known_task.ensures in
-    let e = c.in_ok-advance.ensures in
-    ap lists c.in_ok-vec.ensures.items
-    ∙ last_exact _ _ _ _ _ _ _ c.in_ok-set.set.items c.loop-self.invariant.0 leaves_open c.in_ok-set.ensures.same c.in_ok-set.ensures.atoms (sym e.round ∙ e.closed c.if-not-branch.true) task over
-
 pub loop-self-preserved : goal.loop-self-preserved
 loop-self-preserved g c =
     let t = c.args.task.now in
@@ -87,10 +76,3 @@ pub returns-clause-atoms : goal.returns-clause-atoms
 returns-clause-atoms g c over =
     let task : IsTask c.args.task.now = c.known_task.ensures in
     sets_below _ _ _ _ _ _ _ c.loop-self.invariant.0 task over
-
-pub returns-clause-exact : goal.returns-clause-exact
-returns-clause-exact g c over =
-    let t = c.args.task.now in
-    let f = c.args.self.now in
-    let task : IsTask t = c.known_task.ensures in
-    sets_exact _ _ _ _ _ _ _ c.loop-self.invariant.0 (told t _ f (members c.loop-self.wave.reached) _ true c.self.view_is c.holds.ensures c.loop-self-test.false) task over
