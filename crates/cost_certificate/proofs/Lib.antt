@@ -1,9 +1,9 @@
 mod ReachLemmas
 mod TableLemmas
-mod PlaceLemmas
+pub mod PlaceLemmas
 mod OneFault
 mod CutLemmas
 mod FamilyLemmas
-mod EntryLemmas
+pub mod EntryLemmas
 pub mod OrderLemmas
 mod BoundLemmas

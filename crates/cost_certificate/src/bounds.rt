@@ -12,6 +12,7 @@ use crate::rows::{Row, Why};
 use grd_base::{ActionId, Bits, Bound, OutOfMemory, whole};
 use indexmap::IndexMap;
 use std::alloc::Global;
+use std::marker::Model;
 use strips_model::{Moves, advance, state_of};
 
 /// Whether the state has a bound that is at least as high as is needed.
@@ -60,6 +61,47 @@ pub(crate) fn best_bounds<const W: usize>(
         note_row(&mut bounds, row)?;
     }
     Ok(bounds)
+}
+
+/// The rows of a table with the best bound of each state, which finds whether a state has a row without
+/// looking at the rows.
+#[derive(Drop)]
+pub struct BestBounds<'r, const W: usize> {
+    rows: &'r [Row],
+    best: IndexMap<Bits<W>, Bound>,
+}
+
+impl<'r, const W: usize> Model for BestBounds<'r, W> {
+    ghost use Rattle.std.specs.Prelude.{List};
+    ghost use Rattle.cost_certificate.specs.Rows.{PlainRow};
+    ghost use Rattle.cost_certificate.specs.Seen.{AreBest};
+
+    ghost Value = { List PlainRow };
+
+    ghost view = { λ b. b.rows.now };
+
+    ghost invariant = { λ b. AreBest b.rows.now b.best.entries };
+}
+
+impl<'r, const W: usize> BestBounds<'r, W> {
+    /// The rows with the best bound of each state.
+    pub fn of(alloc: Global, rows: &'r [Row]) -> Result<BestBounds<'r, W>, OutOfMemory>
+        requires width { W ≤ 64 }
+        requires states { All (λ row. All (λ a. a.0 < 64 * W) row.state) rows.now }
+        ensures { IfOk result (λ bounds. bounds ≡ rows.now) }
+    {
+        let best = best_bounds(alloc, rows)?;
+        Ok(BestBounds { rows, best })
+    }
+
+    /// Whether the state has a row that is at least so high.
+    pub fn has(&self, s: &Bits<W>, need: Bound) -> bool
+        requires { W ≤ 64 }
+        ensures { IsTrue result ↔ HasRow self.now (members s.now) need }
+    {
+        whole(s);
+        has_bound(&self.best, s, need)
+    }
 }
 
 /// Whether the step by the allowed action, where it applies, leads to a state with a row that is at

@@ -44,7 +44,10 @@ pub enum CheckKind {
     /// The prefix of a branch is shorter than its tree demands.
     #[error("tree branch")]
     TreeBranch,
-    /// The table of a leaf has no row for the start.
+    /// A leaf uses no named table, one of another goal, or one that removes an action which the leaf keeps.
+    #[error("use missing")]
+    UseMissing,
+    /// The table of a leaf has no row for the start that is high enough.
     #[error("tree leaf")]
     TreeLeaf,
     /// What is claimed is not shown.

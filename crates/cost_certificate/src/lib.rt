@@ -3,7 +3,8 @@
 //! But for want of memory, `valid_table` answers that a table is valid for a task, a goal and removed
 //! actions exactly where it is, and else its first fault, by kind, row and set. The rows of a valid table
 //! mean what they say: no sequence of at most so many actions leads from the row's state to the goal without
-//! the removed actions, and none at all for `Never`. This law is `rows_refute`.
+//! the removed actions, and none at all for `Never`. This law is `rows_refute`; `tables_fail_once` says that a
+//! valid table has no first fault, and no table has two. `BestBounds` finds the rows of a state.
 //!
 //! | file | what it has |
 //! |---|---|
@@ -13,9 +14,9 @@
 //! | `order.rt` | compares bounds |
 //! | `cuts.rt` | gathers the cuts of the sets of a row |
 //! | `soundness.rt` | looks at each row for itself, over these cuts |
-//! | `bounds.rt` | looks at what rows by steps need of others, over a hashed map of best bounds |
+//! | `bounds.rt` | the best bound of each state in a hashed map, and over it what rows by steps need of others |
 //! | `table.rt` | the test of a table |
-//! | `laws.rt` | the law of valid tables |
+//! | `laws.rt` | the laws of valid tables and of first faults |
 //!
 //! The definitions that contracts cite are in `specs/`: `Rows.antt`, `Tables.antt`, `Faults.antt`,
 //! `Found.antt`, `Verdicts.antt`.
@@ -32,9 +33,10 @@ mod rows;
 mod soundness;
 mod table;
 
+pub use bounds::BestBounds;
 pub use found::{CostFound, Verdict};
 pub use kinds::{CheckKind, TableFault};
-pub use laws::rows_refute;
+pub use laws::{rows_refute, tables_fail_once};
 pub use order::is_enough;
 pub use rows::{Row, Table, Why};
 pub use table::valid_table;
