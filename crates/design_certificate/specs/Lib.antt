@@ -1,0 +1,10 @@
+pub mod Promise
+pub mod Designs
+pub mod Witnesses
+pub mod Live
+pub mod Trees
+pub mod Nodes
+pub mod Shown
+pub mod Ranges
+pub mod TreeFaults
+pub mod LiveFaults
