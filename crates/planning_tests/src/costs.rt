@@ -262,9 +262,9 @@ fn kept<const W: usize>(alloc: Global, asked: &Asked) -> Result<Kept, Fail>
     kept_by::<W>(alloc, &task, goal, &removed, asked)
 }
 
-// Without B no state is near. For both atoms at once three are, and as many count within four steps; within
-// three steps two are expanded, since from atom 2 two more are needed, one for each atom: their rows are by
-// steps, and by cuts are those of atom 2 and of the two dead ends. They answer the last question as well.
+// Without B no state is near. For both atoms at once three are, and as many count within four steps. Within three
+// steps none is expanded: from the start four actions are needed, each a cut of its own, and from atom 1 three. So
+// these two states have rows, both by cuts.
 #[test]
 fn oracle_keeps_a_valid_table(rt: HostRuntime) -> Result<(), Fail> {
     let rows: [(Asked, usize, usize); 4] = [
@@ -318,8 +318,8 @@ fn oracle_keeps_a_valid_table(rt: HostRuntime) -> Result<(), Fail> {
                     (Steps(1, 2), Ok(None)),
                 ],
             },
-            5,
             2,
+            0,
         ),
     ];
     for (asked, count, by_steps) in rows {

@@ -5,6 +5,7 @@
 //! slow calculation straight from the definitions. Each test is a loop over rows of data with one
 //! call of a helper, so that its proof is cheap.
 //!
+//! - `chains.rt`: chains of as many atoms as states of each width hold.
 //! - `runs.rt`: runs words over files in memory, and compares how the run ended.
 //! - `samples.rt`: the texts of the tasks.
 //! - `reports.rt`: the reports and the canonical texts.
@@ -15,6 +16,8 @@
 //! - `slow_tests.rt`: random tasks against the slow calculation.
 #![tactic(auto)]
 
+#[cfg(test)]
+mod chains;
 #[cfg(test)]
 mod devices;
 #[cfg(test)]
