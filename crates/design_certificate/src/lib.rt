@@ -1,7 +1,7 @@
 //! Live rows and trees: what shows how long two goals can't be told apart, and that a design is best.
 //!
-//! But for want of memory, `valid_tree` answers that a tree is valid exactly as its definition says, and else
-//! what it fails first. The laws say what valid parts mean: valid live rows bound every sequence that two
+//! But for want of memory, `valid_tree` answers that a tree is valid only where it is, and else what it fails
+//! first. The laws say what valid parts mean: valid live rows bound every sequence that two
 //! goals share (`live_rows_bound`, `live_rows_show_wcd`), a valid tree shows that each set of so many removed
 //! actions that keeps the costs leaves two goals alike for so long (`trees_hide`), and the parts of a
 //! certificate show that its design is best (`parts_show`). No call tests live rows yet.
