@@ -11,4 +11,6 @@ pub enum FileRole {
     Observations,
     /// The certificate of a solved design.
     Certificate,
+    /// The actions that an agent takes, one a line, as they come.
+    Steps,
 }

@@ -2,7 +2,7 @@
 use Rattle.std.specs.Prelude.{ℕ, ◌+◌, List, [], ◌++◌, codes}
 use Rattle.std.specs.Fmt.{decimal}
 use Rattle.grd_base.specs.declared.roles.FileRole.{FileRole}
-use Rattle.grd_base.specs.declared.roles.FileRole.TheVariants.{Domain, Problem, Goals, Observations, Certificate}
+use Rattle.grd_base.specs.declared.roles.FileRole.TheVariants.{Domain, Problem, Goals, Observations, Certificate, Steps}
 use Rattle.goal_files.specs.declared.faults.GoalFault.{GoalFault}
 use Rattle.goal_files.specs.declared.faults.GoalFault.TheVariants.{Shape, UnknownAtom, NoGoal, TooManyGoals, OutOfMemory as GoalsOutOfMemory}
 use Rattle.pddl_lexer.specs.declared.faults.TreeFault.{TreeFault}
@@ -33,6 +33,7 @@ role_text Problem = codes "problem"
 role_text Goals = codes "goals"
 role_text Observations = codes "observations"
 role_text Certificate = codes "certificate"
+role_text Steps = codes "steps"
 
 -- what is said of the words; a word is named by its place behind the program's name, from 1
 abbrev pub usage_text : UsageFault → List ℕ

@@ -293,5 +293,6 @@ fn name_of(role: &FileRole) -> &'static str
         FileRole::Goals => "goals",
         FileRole::Observations => "observations",
         FileRole::Certificate => "certificate",
+        FileRole::Steps => "steps",
     }
 }
