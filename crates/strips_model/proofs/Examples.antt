@@ -14,7 +14,7 @@ use Rattle.strips_model.specs.Agents.{Embeds}
 use Rattle.strips_model.specs.Plans.{State, set_of, is_step, step, step_without, after, goal_holds, start_of, IsCost}
 use Rattle.strips_model.specs.WorldPlans.{world_step, world_step_without, world_after, world_end}
 use Rattle.strips_model.specs.Levels.{after_rounds, grown, IsLevel}
-use Rattle.strips_model.specs.Worlds.{Instance, World, has_atom, task_of, task_of_world}
+use Rattle.strips_model.specs.Worlds.{Instance, World, has_atom, numbered_world, task_of_world, task_of}
 
 -- atoms by their names, as bytes
 abbrev Name : Type 0
@@ -45,12 +45,13 @@ abbrev held : PlainTask → Option State → Option (List Bool)
 held t o = option_map (λ s. map (λ n. goal_holds t (goal n) s) (0 ∷ 1 ∷ 2 ∷ 3 ∷ [])) o
 
 abbrev from_to : Name → Name → Instance Name
-from_to p q = record { pre = p ∷ []; add = q ∷ []; del = p ∷ [] }
+from_to p q = record { pre = p ∷ []; absent = []; add = q ∷ []; del = p ∷ [] }
 
 -- its second goal names its atoms out of order and one of them twice
 abbrev fork : World Name
 fork = record {
   fluents = codes "at0" ∷ codes "at1" ∷ codes "at2" ∷ codes "atl" ∷ codes "atr" ∷ [];
+  is_watched = λ a. false;
   at_start = has_atom same (codes "at0" ∷ []);
   actions = from_to (codes "at0") (codes "at1")
       ∷ from_to (codes "at1") (codes "at2")
@@ -170,8 +171,9 @@ removed_action_adds_in_no_round = refl
 abbrev keep : World Name
 keep = record {
   fluents = codes "p" ∷ codes "q" ∷ [];
+  is_watched = λ a. false;
   at_start = has_atom same (codes "p" ∷ []);
-  actions = (record { pre = codes "p" ∷ []; add = codes "q" ∷ codes "p" ∷ []; del = codes "p" ∷ [] }) ∷ [];
+  actions = (record { pre = codes "p" ∷ []; absent = []; add = codes "q" ∷ codes "p" ∷ []; del = codes "p" ∷ [] }) ∷ [];
   goals = (codes "p" ∷ codes "q" ∷ []) ∷ [];
 }
 
@@ -180,23 +182,30 @@ unfolding after step_without step
 deleted_and_added_is_true = refl
 
 abbrev through : Name → Instance Name
-through door = record { pre = door ∷ []; add = codes "inside" ∷ []; del = [] }
+through door = record { pre = door ∷ []; absent = []; add = codes "inside" ∷ []; del = [] }
+
+-- to go round by a door, it must not be open
+abbrev round : Name → Instance Name
+round door = record { pre = []; absent = door ∷ []; add = codes "inside" ∷ []; del = [] }
 
 abbrev doors : World Name
 doors = record {
   fluents = codes "inside" ∷ [];
+  is_watched = λ a. false;
   at_start = has_atom same (codes "open" ∷ []);
-  actions = through (codes "open") ∷ through (codes "shut") ∷ [];
+  actions = through (codes "open") ∷ through (codes "shut") ∷ round (codes "open") ∷ round (codes "shut") ∷ [];
   goals = (codes "inside" ∷ codes "open" ∷ []) ∷ (codes "inside" ∷ codes "shut" ∷ []) ∷ [];
 }
 
--- static atoms leave the lists, and a false one blocks
+-- static atoms leave the lists; one that is not as it must be blocks
 abbrev doors_task : PlainTask
 doors_task = record {
   atoms = 1;
   init = [];
   actions = (record { pre = []; add = atom 0 ∷ []; del = []; blocked = false })
       ∷ (record { pre = []; add = atom 0 ∷ []; del = []; blocked = true })
+      ∷ (record { pre = []; add = atom 0 ∷ []; del = []; blocked = true })
+      ∷ (record { pre = []; add = atom 0 ∷ []; del = []; blocked = false })
       ∷ [];
   goals = (record { atoms = atom 0 ∷ []; blocked = false })
       ∷ (record { atoms = atom 0 ∷ []; blocked = true })
@@ -224,7 +233,20 @@ no_l_then_a h = search rules
 no_a_twice : Embeds (a ∷ a ∷ []) (a ∷ b ∷ l ∷ []) → ⊥
 no_a_twice h = search rules
 
--- 'light' needs the lamp, which is atom 0, to be off, 'end' that it is on, and 'dark' switches it off
+-- by its atoms: 'light' needs the lamp to be off, 'end' that it is on, and 'dark' switches it off
+abbrev lamp_by_names : World Name
+lamp_by_names = record {
+  fluents = codes "on" ∷ codes "done" ∷ [];
+  is_watched = same (codes "on");
+  at_start = λ a. false;
+  actions = (record { pre = []; absent = codes "on" ∷ []; add = codes "on" ∷ []; del = [] })
+      ∷ (record { pre = codes "on" ∷ []; absent = []; add = codes "done" ∷ []; del = [] })
+      ∷ (record { pre = codes "on" ∷ []; absent = []; add = []; del = codes "on" ∷ [] })
+      ∷ [];
+  goals = (codes "on" ∷ []) ∷ (codes "done" ∷ []) ∷ [];
+}
+
+-- the same by numbers
 abbrev lamp : PlainWorld
 lamp = record {
   fluents = 2;
@@ -248,6 +270,9 @@ lamp_task = record {
       ∷ [];
   goals = (record { atoms = atom 0 ∷ []; blocked = false }) ∷ (record { atoms = atom 1 ∷ []; blocked = false }) ∷ [];
 }
+
+lamp_by_numbers : numbered_world same lamp_by_names ≡ lamp
+lamp_by_numbers = refl
 
 lamp_is_its_task : task_of_world lamp ≡ lamp_task
 lamp_is_its_task = refl

@@ -31,14 +31,13 @@ pub use Rattle.strips_model.specs.Answers.{PlainAnswer, IsRightYes, IsRightGoal,
 -- Sequences that are common to two goals, and how long two goals can't be told apart.
 pub use Rattle.strips_model.specs.Common.{BeginsOptimal, IsCommon, HasPlan, IsWcd, KeepsCosts, IsBest}
 pub use Rattle.strips_model.specs.Common.{IsWitness, IsRightWcd, IsRight, AreRight}
--- The task of a world.
-pub use Rattle.strips_model.specs.Worlds.{Instance, World, has_atom, places_of, numbers_of, is_blocked}
-pub use Rattle.strips_model.specs.Worlds.{action_of, goal_of, task_of}
--- Worlds whose actions may ask that atoms be false, their plans, and their task.
+-- Worlds whose actions may ask that atoms be false, by their atoms and by numbers, their plans, and their task.
 pub use Rattle.strips_model.specs.Values.{WorldAction, PlainWorld, IsWorldAction, IsWorld}
+pub use Rattle.strips_model.specs.Worlds.{Instance, World, has_atom, places_of, numbers_of, is_blocked, is_barred}
+pub use Rattle.strips_model.specs.Worlds.{world_action_of, goal_of, numbered_world}
 pub use Rattle.strips_model.specs.WorldPlans.{has_none, world_can_apply, world_effect, world_step}
 pub use Rattle.strips_model.specs.WorldPlans.{world_step_without, world_after, world_goal_holds, world_end, IsWorldPlan, IsSameEnd}
-pub use Rattle.strips_model.specs.Worlds.{complements, task_action, task_of_world}
+pub use Rattle.strips_model.specs.Worlds.{complements, task_action, task_of_world, task_of}
 -- Cuts.
 pub use Rattle.strips_model.specs.Cuts.{leads_out, cut, AreDisjoint, IsEmptyCut, AreApart, IsFamily}
 -- The actions over which a state is expanded.

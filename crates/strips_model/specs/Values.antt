@@ -7,7 +7,7 @@ use Rattle.grd_base.specs.declared.ids.GoalId.{GoalId}
 use Rattle.grd_base.specs.Rising.{IsRisingBy}
 
 -- a ground action: what it needs, what it makes true and what it makes false;
--- it is blocked where a static atom that it needs is false
+-- it is blocked where a static atom is not as it must be
 pub record GroundAction : Type 0 where
   pub pre : List AtomId
   pub add : List AtomId
@@ -57,7 +57,7 @@ pub record WorldAction : Type 0 where
   pub blocked : Bool
 
 -- a world: how many fluent atoms there are, which of them are watched, those that are true at the start, the
--- actions and the goals. The watched atoms are those that some action may need to be false
+-- actions and the goals. No action needs an atom to be false that is not watched
 pub record PlainWorld : Type 0 where
   pub fluents : ℕ
   pub watched : List AtomId
