@@ -10,7 +10,7 @@ use Rattle.pddl_reader.specs.Forms.{Word, Form, Leaf, Group, forms_in, group, pl
 use Rattle.pddl_reader.specs.Values.{PlainTerm, PlainLiteral}
 use Rattle.pddl_reader.specs.Values.PlainTerm.{Variable, Constant}
 use Rattle.pddl_reader.specs.Classes.{is_name, is_variable, is_predicate, head_feature}
-use Rattle.pddl_reader.specs.Conditions.{IsTerm, AreTerms, IsAtom}
+use Rattle.pddl_reader.specs.Conditions.{IsTerm, AreTerms, has_enough, IsAtom}
 use Rattle.pddl_reader.specs.Sections.{Pairwise}
 use Rattle.pddl_reader.specs.Faults.{IsTermForm, IsNoTerm, IsAtomListFault, IsAtomFault, IsAtomForm}
 use Rattle.pddl_reader.specs.Reading.{Read, and_then, each_at, takes_variables, term_at, atom_by, atom_in, atom_at}
@@ -92,17 +92,24 @@ module _ (part : Part) where
   abbrev pub terms_behind : Word → List Form → Read PlainLiteral
   terms_behind w forms = and_then (each_at (term_at part) forms) (λ terms. Ok (atom_of w terms))
 
+  -- what stands behind a predicate, where it is enough
+  abbrev pub behind_predicate : ℕ → Word → List Form → Read PlainLiteral
+  behind_predicate at w forms = cond (has_enough w.text forms) (terms_behind w forms) (Err (Shape at))
+
   atom_by_spells : (feature : Option Feature) (at : ℕ) (w : Word) (forms : List Form) (l : PlainLiteral) → head_feature part w.text ≡ feature
       → atom_by feature part at w forms ≡ Ok l → (l.positive ≡ true) × IsAtom part (group at (Leaf w ∷ forms)) l.predicate l.terms
   atom_by_spells (Some feature) at w forms l plain h = absurd (cc)
   atom_by_spells None at w forms l plain h =
-      choice (is_predicate w.text) (terms_behind w forms) (Err (Shape w.at)) (Ok l) h ((l.positive ≡ true) × IsAtom part (group at (Leaf w ∷ forms)) l.predicate l.terms)
-      (λ good e.
+      choice (is_predicate part w.text) (behind_predicate at w forms) (Err (Shape w.at)) (Ok l) h ((l.positive ≡ true) × IsAtom part (group at (Leaf w ∷ forms)) l.predicate l.terms)
+      (λ good some.
+      choice (has_enough w.text forms) (terms_behind w forms) (Err (Shape at)) (Ok l) some ((l.positive ≡ true) × IsAtom part (group at (Leaf w ∷ forms)) l.predicate l.terms)
+      (λ enough e.
       let read = and_then-Ok (each_at (term_at part) forms) (λ terms. Ok (atom_of w terms)) l e in
       let same : atom_of w read.0 ≡ l = cc in
       let are = terms_spell forms read.0 (each_spells (term_at part) (IsTerm part) term_spells forms read.0 read.1) in
       subst (λ m. (m.positive ≡ true) × IsAtom part (group at (Leaf w ∷ forms)) m.predicate m.terms) same
-      (refl, record { at = at; forms = forms; whole = refl; name = good; plain = plain; are_terms = are }))
+      (refl, record { at = at; forms = forms; whole = refl; name = good; plain = plain; enough = enough; are_terms = are }))
+      (λ bare e. absurd (cc)))
       (λ bad e. absurd (cc))
 
   atom_in_spells : (at : ℕ) (forms : List Form) (l : PlainLiteral) → atom_in part at forms ≡ Ok l → (l.positive ≡ true) × IsAtom part (group at forms) l.predicate l.terms
@@ -119,11 +126,12 @@ module _ (part : Part) where
   positive_is : (l : PlainLiteral) → l.positive ≡ true → atom_of l.predicate l.terms ≡ l
   positive_is l e = ap (λ b. record l { positive = b }) (sym e)
 
-  pub atom_in_reads : (at : ℕ) (w : Word) (forms : List Form) (terms : List PlainTerm) → is_predicate w.text ≡ true → head_feature part w.text ≡ None
-      → AreTerms part forms terms → atom_in part at (Leaf w ∷ forms) ≡ Ok (atom_of w terms)
-  atom_in_reads at w forms terms name plain are =
+  pub atom_in_reads : (at : ℕ) (w : Word) (forms : List Form) (terms : List PlainTerm) → is_predicate part w.text ≡ true → head_feature part w.text ≡ None
+      → has_enough w.text forms ≡ true → AreTerms part forms terms → atom_in part at (Leaf w ∷ forms) ≡ Ok (atom_of w terms)
+  atom_in_reads at w forms terms name plain enough are =
       ap (λ feature. atom_by feature part at w forms) plain
-      ∙ cond-true (is_predicate w.text) (terms_behind w forms) (Err (Shape w.at)) name
+      ∙ cond-true (is_predicate part w.text) (behind_predicate at w forms) (Err (Shape w.at)) name
+      ∙ cond-true (has_enough w.text forms) (terms_behind w forms) (Err (Shape at)) enough
       ∙ and_then-from (each_at (term_at part) forms) (λ ts. Ok (atom_of w ts)) terms (Ok (atom_of w terms))
       (each_reads (term_at part) (IsTerm part) term_reads forms terms (terms_pair forms terms are)) refl
 
@@ -132,18 +140,21 @@ module _ (part : Part) where
       let list : List Form = Leaf l.predicate ∷ is.forms in
       ap (atom_at part) is.whole
       ∙ ap (atom_in part is.at) (forms_there list)
-      ∙ atom_in_reads is.at l.predicate is.forms l.terms is.name is.plain is.are_terms
+      ∙ atom_in_reads is.at l.predicate is.forms l.terms is.name is.plain is.enough is.are_terms
       ∙ ap (λ m. Ok m) (positive_is l positive)
 
   atom_by_faults : (feature : Option Feature) (at : ℕ) (w : Word) (forms : List Form) (fault : PddlFault) → head_feature part w.text ≡ feature
       → atom_by feature part at w forms ≡ Err fault → IsAtomListFault part at (Leaf w ∷ forms) fault
   atom_by_faults (Some feature) at w forms fault is h = inl (feature, is, cc)
   atom_by_faults None at w forms fault plain h =
-      choice (is_predicate w.text) (terms_behind w forms) (Err (Shape w.at)) (Err fault) h (IsAtomListFault part at (Leaf w ∷ forms) fault)
-      (λ good e. elim (and_then-Err (each_at (term_at part) forms) (λ terms. Ok (atom_of w terms)) fault e) [
-        | inl term ↦ inr (inr (plain, good, each_faults (term_at part) (IsTermForm part) (IsNoTerm part) term_good term_faults forms fault term))
+      choice (is_predicate part w.text) (behind_predicate at w forms) (Err (Shape w.at)) (Err fault) h (IsAtomListFault part at (Leaf w ∷ forms) fault)
+      (λ good some.
+      choice (has_enough w.text forms) (terms_behind w forms) (Err (Shape at)) (Err fault) some (IsAtomListFault part at (Leaf w ∷ forms) fault)
+      (λ enough e. elim (and_then-Err (each_at (term_at part) forms) (λ terms. Ok (atom_of w terms)) fault e) [
+        | inl term ↦ inr (inr (inr (plain, good, enough, each_faults (term_at part) (IsTermForm part) (IsNoTerm part) term_good term_faults forms fault term)))
         | inr (terms, e', k) ↦ absurd (cc)
       ])
+      (λ bare e. inr (inr (inl (plain, good, bare, cc)))))
       (λ bad e. inr (inl (plain, bad, cc)))
 
   pub atom_in_faults : (at : ℕ) (forms : List Form) (fault : PddlFault) → atom_in part at forms ≡ Err fault → IsAtomListFault part at forms fault

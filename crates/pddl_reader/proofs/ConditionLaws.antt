@@ -2,93 +2,97 @@
 use Rattle.std.proofs.Common.{◌≡◌, ℕ, Bool, true, false, cond, ◌&&◌, ◌||◌, List, [], ◌∷◌, ◌++◌, refl, ap, ◌∙◌, subst, sym, inl, inr, Ok, Err}
 use Rattle.std.specs.Prelude.{codes}
 use Rattle.std.specs.Str.{bytes_eq}
-use Rattle.std.proofs.lemmas.Bool.{both_ways, cond-true, cond-false, and_parts, and_left, and_from, or_parts, not-true, false≢true}
+use Rattle.std.proofs.lemmas.Bool.{both_ways, cond-true, cond-false, and_parts, and_left, and_from, or_parts, not-true}
 use Rattle.pddl_reader.specs.declared.faults.PddlFault.{PddlFault}
 use Rattle.pddl_reader.specs.declared.faults.PddlFault.TheVariants.{Shape}
 use Rattle.pddl_reader.specs.declared.kinds.Part.{Part}
-use Rattle.pddl_reader.specs.declared.kinds.Part.TheVariants.{Precondition, Effect, Start}
 use Rattle.pddl_reader.specs.Forms.{Word, Form, Forms, Leaf, Group, End, Then, forms_in, place_of}
 use Rattle.pddl_reader.specs.Values.{PlainLiteral}
-use Rattle.pddl_reader.specs.Classes.{is_name, is_predicate}
+use Rattle.pddl_reader.specs.Classes.{is_name, takes_equality, takes_negation, is_equality, is_predicate_name, is_predicate}
 use Rattle.pddl_reader.specs.Conditions.{IsAtom, IsLiteral, IsCondition, AreConditions}
 use Rattle.pddl_reader.specs.Faults.{IsNegationFault, IsConditionFault, AreConditionsFault}
-use Rattle.pddl_reader.specs.Reading.{Read, and_then, atom_at, negative_of, negation_in, is_effect, condition_at, conditions_at}
+use Rattle.pddl_reader.specs.Reading.{Read, and_then, atom_at, negative_of, negation_in, condition_at, conditions_at}
 use Rattle.pddl_reader.proofs.EachLaws.{and_then-Ok, and_then-Err, and_then-from}
 use Rattle.pddl_reader.proofs.NameLaws.{same_bytes, bytes_same, other_bytes, choice}
 use Rattle.pddl_reader.proofs.AtomLaws.{atom_spells, atom_reads, atom_faults, atom_good}
 
-pub effect_is : (part : Part) → is_effect part ≡ true → part ≡ Effect
-effect_is Precondition h = absurd (false≢true h)
-effect_is Effect h = refl
-effect_is Start h = absurd (false≢true h)
-
-pub is_of_effect : (part : Part) → part ≡ Effect → is_effect part ≡ true
-is_of_effect part h = rw h refl
-
 -- a predicate is neither of the words that a condition begins with
-predicate_other : (text : List ℕ) → is_predicate text ≡ true → (bytes_eq (codes "and") text ≡ false) × (bytes_eq (codes "not") text ≡ false)
-predicate_other text h =
+name_other : (text : List ℕ) → is_predicate_name text ≡ true → (bytes_eq (codes "and") text ≡ false) × (bytes_eq (codes "not") text ≡ false)
+name_other text h =
     let parts = and_parts (is_name text) _ h in
     let others = or_parts (bytes_eq (codes "and") text) (bytes_eq (codes "not") text || false) (not-true _ parts.1) in
     (others.0, (or_parts (bytes_eq (codes "not") text) false others.1).0)
 
+equality_other : (text : List ℕ) → is_equality text ≡ true → (bytes_eq (codes "and") text ≡ false) × (bytes_eq (codes "not") text ≡ false)
+equality_other text h =
+    subst (λ x. (bytes_eq (codes "and") x ≡ false) × (bytes_eq (codes "not") x ≡ false)) (sym (same_bytes (codes "=") text h)) (refl, refl)
+
+predicate_other : (part : Part) (text : List ℕ) → is_predicate part text ≡ true → (bytes_eq (codes "and") text ≡ false) × (bytes_eq (codes "not") text ≡ false)
+predicate_other part text h =
+    choice (is_predicate_name text) true (takes_equality part && is_equality text) true (either (is_predicate_name text) h) ((bytes_eq (codes "and") text ≡ false) × (bytes_eq (codes "not") text ≡ false))
+    (λ named e. name_other text named)
+    (λ other e. equality_other text (and_parts (takes_equality part) (is_equality text) e).1)
+  where
+    either : (b : Bool) → (b || (takes_equality part && is_equality text)) ≡ true → cond b true (takes_equality part && is_equality text) ≡ true
+    either true k = refl
+    either false k = k
+
 -- the literal behind 'not'
-negation_spells : (at : ℕ) (rest : Forms) (l : PlainLiteral) → negation_in at (forms_in rest) ≡ Ok l
-    → (inner : Form) × (rest ≡ Then inner End) × (l.positive ≡ false) × IsAtom Effect inner l.predicate l.terms
-negation_spells at End l h = absurd (cc)
-negation_spells at (Then f End) l h =
-    let read = and_then-Ok (atom_at Effect f) (λ m. Ok (negative_of m)) l h in
+negation_spells : (part : Part) (at : ℕ) (rest : Forms) (l : PlainLiteral) → negation_in part at (forms_in rest) ≡ Ok l
+    → (inner : Form) × (rest ≡ Then inner End) × (l.positive ≡ false) × IsAtom part inner l.predicate l.terms
+negation_spells part at End l h = absurd (cc)
+negation_spells part at (Then f End) l h =
+    let read = and_then-Ok (atom_at part f) (λ m. Ok (negative_of m)) l h in
     let same : negative_of read.0 ≡ l = cc in
-    let spelt = atom_spells Effect f read.0 read.1 in
-    subst (λ m. (inner : Form) × (Then f End ≡ Then inner End) × (m.positive ≡ false) × IsAtom Effect inner m.predicate m.terms) same
+    let spelt = atom_spells part f read.0 read.1 in
+    subst (λ m. (inner : Form) × (Then f End ≡ Then inner End) × (m.positive ≡ false) × IsAtom part inner m.predicate m.terms) same
     (f, refl, refl, spelt.1)
-negation_spells at (Then f (Then g rest)) l h =
-    let read = and_then-Ok (atom_at Effect f) (λ m. Err (Shape (place_of g))) l h in
+negation_spells part at (Then f (Then g rest)) l h =
+    let read = and_then-Ok (atom_at part f) (λ m. Err (Shape (place_of g))) l h in
     absurd (cc)
 
-negation_reads : (at : ℕ) (inner : Form) (l : PlainLiteral) → l.positive ≡ false → IsAtom Effect inner l.predicate l.terms → negation_in at (inner ∷ []) ≡ Ok l
-negation_reads at inner l negative is =
+negation_reads : (part : Part) (at : ℕ) (inner : Form) (l : PlainLiteral) → l.positive ≡ false → IsAtom part inner l.predicate l.terms → negation_in part at (inner ∷ []) ≡ Ok l
+negation_reads part at inner l negative is =
     let atom : PlainLiteral = record { positive = true; predicate = l.predicate; terms = l.terms } in
-    and_then-from (atom_at Effect inner) (λ m. Ok (negative_of m)) atom (Ok l) (atom_reads Effect inner atom refl is)
+    and_then-from (atom_at part inner) (λ m. Ok (negative_of m)) atom (Ok l) (atom_reads part inner atom refl is)
     (ap (λ b. Ok (record l { positive = b })) (sym negative))
 
-negation_faults : (at : ℕ) (forms : List Form) (fault : PddlFault) → negation_in at forms ≡ Err fault → IsNegationFault at forms fault
-negation_faults at [] fault h = cc
-negation_faults at (f ∷ []) fault h =
-    elim (and_then-Err (atom_at Effect f) (λ m. Ok (negative_of m)) fault h) [
-      | inl atom ↦ atom_faults Effect f fault atom
+negation_faults : (part : Part) (at : ℕ) (forms : List Form) (fault : PddlFault) → negation_in part at forms ≡ Err fault → IsNegationFault part at forms fault
+negation_faults part at [] fault h = cc
+negation_faults part at (f ∷ []) fault h =
+    elim (and_then-Err (atom_at part f) (λ m. Ok (negative_of m)) fault h) [
+      | inl atom ↦ atom_faults part f fault atom
       | inr (m, e, k) ↦ absurd (cc)
     ]
-negation_faults at (f ∷ g ∷ forms) fault h =
-    elim (and_then-Err (atom_at Effect f) (λ m. Err (Shape (place_of g))) fault h) [
-      | inl atom ↦ inl (atom_faults Effect f fault atom)
-      | inr (m, e, k) ↦ inr (atom_good Effect f m e, cc)
+negation_faults part at (f ∷ g ∷ forms) fault h =
+    elim (and_then-Err (atom_at part f) (λ m. Err (Shape (place_of g))) fault h) [
+      | inl atom ↦ inl (atom_faults part f fault atom)
+      | inr (m, e, k) ↦ inr (atom_good part f m e, cc)
     ]
 
 -- one literal, by its head
 abbrev pub is_negation : Part → Word → Bool
-is_negation part w = bytes_eq (codes "not") w.text && is_effect part
+is_negation part w = bytes_eq (codes "not") w.text && takes_negation part
 
 abbrev pub literal_at : Part → ℕ → Word → Forms → Read PlainLiteral
-literal_at part at w rest = cond (is_negation part w) (negation_in at (forms_in rest)) (atom_at part (Group at (Then (Leaf w) rest)))
+literal_at part at w rest = cond (is_negation part w) (negation_in part at (forms_in rest)) (atom_at part (Group at (Then (Leaf w) rest)))
 
 module _ (part : Part) where
   literal_spells : (at : ℕ) (w : Word) (rest : Forms) (l : PlainLiteral) → literal_at part at w rest ≡ Ok l → IsLiteral part (Group at (Then (Leaf w) rest)) l
   literal_spells at w rest l h =
-      choice (is_negation part w) (negation_in at (forms_in rest)) (atom_at part (Group at (Then (Leaf w) rest))) (Ok l) h (IsLiteral part (Group at (Then (Leaf w) rest)) l)
+      choice (is_negation part w) (negation_in part at (forms_in rest)) (atom_at part (Group at (Then (Leaf w) rest))) (Ok l) h (IsLiteral part (Group at (Then (Leaf w) rest)) l)
       (λ good e.
-      let is = and_parts (bytes_eq (codes "not") w.text) (is_effect part) good in
-      let effect = effect_is part is.1 in
-      let spelt = negation_spells at rest l e in
+      let is = and_parts (bytes_eq (codes "not") w.text) (takes_negation part) good in
+      let spelt = negation_spells part at rest l e in
       inr (
         spelt.2,
-        effect,
+        is.1,
         at,
         w,
         spelt.0,
         ap (λ r. Group at (Then (Leaf w) r)) spelt.1,
         same_bytes (codes "not") w.text is.0,
-        subst (λ p. IsAtom p spelt.0 l.predicate l.terms) (sym effect) spelt.3,
+        spelt.3,
       ))
       (λ bad e. inl (atom_spells part (Group at (Then (Leaf w) rest)) l e))
 
@@ -97,20 +101,20 @@ module _ (part : Part) where
       → (bytes_eq (codes "and") w.text ≡ false) × (literal_at part at w rest ≡ Ok l)
   literal_reads at w rest l (inl (positive, is)) =
       let same : w ≡ l.predicate = cc (is.whole) in
-      let other = predicate_other w.text (subst (λ p. is_predicate p.text ≡ true) (sym same) is.name) in (
+      let other = predicate_other part w.text (subst (λ p. is_predicate part p.text ≡ true) (sym same) is.name) in (
         other.0,
-        cond-false (is_negation part w) (negation_in at (forms_in rest)) (atom_at part (Group at (Then (Leaf w) rest))) (and_left (bytes_eq (codes "not") w.text) (is_effect part) other.1)
+        cond-false (is_negation part w) (negation_in part at (forms_in rest)) (atom_at part (Group at (Then (Leaf w) rest))) (and_left (bytes_eq (codes "not") w.text) (takes_negation part) other.1)
             ∙ atom_reads part (Group at (Then (Leaf w) rest)) l positive is,
       )
-  literal_reads at w rest l (inr (negative, effect, a, head, inner, whole, is, atom)) =
+  literal_reads at w rest l (inr (negative, takes, a, head, inner, whole, is, atom)) =
       let same : w ≡ head = cc in
       let behind : rest ≡ Then inner End = cc in
       let named : w.text ≡ codes "not" = ap (λ (x : Word). x.text) same ∙ is in (
         ap (bytes_eq (codes "and")) named,
-        cond-true (is_negation part w) (negation_in at (forms_in rest)) (atom_at part (Group at (Then (Leaf w) rest)))
-            (and_from (bytes_eq (codes "not") w.text) (is_effect part) (bytes_same (codes "not") w.text named) (is_of_effect part effect))
-            ∙ ap (λ r. negation_in at (forms_in r)) behind
-            ∙ negation_reads at inner l negative (subst (λ p. IsAtom p inner l.predicate l.terms) effect atom),
+        cond-true (is_negation part w) (negation_in part at (forms_in rest)) (atom_at part (Group at (Then (Leaf w) rest)))
+            (and_from (bytes_eq (codes "not") w.text) (takes_negation part) (bytes_same (codes "not") w.text named) takes)
+            ∙ ap (λ r. negation_in part at (forms_in r)) behind
+            ∙ negation_reads part at inner l negative atom,
       )
 
   mutual
@@ -155,15 +159,15 @@ module _ (part : Part) where
   literal_faults : (at : ℕ) (w : Word) (rest : Forms) (fault : PddlFault) → bytes_eq (codes "and") w.text ≡ false → literal_at part at w rest ≡ Err fault
       → IsConditionFault part (Group at (Then (Leaf w) rest)) fault
   literal_faults at w rest fault other h =
-      choice (is_negation part w) (negation_in at (forms_in rest)) (atom_at part (Group at (Then (Leaf w) rest))) (Err fault) h
+      choice (is_negation part w) (negation_in part at (forms_in rest)) (atom_at part (Group at (Then (Leaf w) rest))) (Err fault) h
       (IsConditionFault part (Group at (Then (Leaf w) rest)) fault)
       (λ good e.
-      let is = and_parts (bytes_eq (codes "not") w.text) (is_effect part) good in
-      inr (inl (same_bytes (codes "not") w.text is.0, effect_is part is.1, negation_faults at (forms_in rest) fault e)))
+      let is = and_parts (bytes_eq (codes "not") w.text) (takes_negation part) good in
+      inr (inl (same_bytes (codes "not") w.text is.0, is.1, negation_faults part at (forms_in rest) fault e)))
       (λ bad e.
       inr (inr (
         other_bytes (codes "and") w.text other,
-        λ is effect. both_ways (is_negation part w) bad (and_from (bytes_eq (codes "not") w.text) (is_effect part) (bytes_same (codes "not") w.text is) (is_of_effect part effect)),
+        λ is takes. both_ways (is_negation part w) bad (and_from (bytes_eq (codes "not") w.text) (takes_negation part) (bytes_same (codes "not") w.text is) takes),
         atom_faults part (Group at (Then (Leaf w) rest)) fault e,
       )))
 

@@ -14,7 +14,6 @@ use Rattle.pddl_reader.specs.Reading.{Read, and_then, atom_at, negative_of, nega
 use Rattle.pddl_reader.specs.declared.kinds.Part.{Part}
 use Rattle.pddl_reader.specs.declared.faults.PddlFault.{PddlFault}
 use Rattle.pddl_reader.specs.declared.faults.PddlFault.TheVariants.{Shape}
-use Rattle.pddl_reader.specs.declared.kinds.Part.TheVariants.{Effect}
 use Rattle.pddl_reader.proofs.ItemLemmas.{forms_in-of, form_at-word, list_form}
 use Rattle.pddl_reader.proofs.ReadLemmas.{behind-append, drop-next}
 
@@ -57,16 +56,16 @@ module _ (part : Part) (text : List ℕ) (items : List Item) (i : ℕ) (item : I
       ∙ ap (λ r. behind found (and_then r (λ ls. and_then (conditions_at part (forms_of (forms_at text (drop (i + 1) items)))) (λ more. Ok (ls ++ more))))) e
 
 -- the atom behind 'not' is at fault
-pub negation_fault : (at : ℕ) (f : Form) (forms : List Form) (fault : PddlFault) → atom_at Effect f ≡ Err fault → negation_in at (f ∷ forms) ≡ Err fault
-negation_fault at f [] fault e = ap (λ r. and_then r (λ l. Ok (negative_of l))) e
-negation_fault at f (g ∷ forms) fault e = ap (λ r. and_then {B = PlainLiteral} r (λ l. Err (Shape (place_of g)))) e
+pub negation_fault : (part : Part) (at : ℕ) (f : Form) (forms : List Form) (fault : PddlFault) → atom_at part f ≡ Err fault → negation_in part at (f ∷ forms) ≡ Err fault
+negation_fault part at f [] fault e = ap (λ r. and_then r (λ l. Ok (negative_of l))) e
+negation_fault part at f (g ∷ forms) fault e = ap (λ r. and_then {B = PlainLiteral} r (λ l. Err (Shape (place_of g)))) e
 
 -- a second item behind 'not'
-pub second_item : (text : List ℕ) (at : ℕ) (items : List Item) (first : Item) (rest : List Item) (second : Item) → items ≡ first ∷ rest → Some second ≡ slice_get rest 0 → (l : PlainLiteral) → atom_at Effect (form_at text first) ≡ Ok l
-    → negation_in at (forms_at text items) ≡ Err (Shape (place_of (form_at text second)))
-second_item text at items first [] second begins is l e = absurd cc
-second_item text at items first (other ∷ more) second begins is l e =
+pub second_item : (part : Part) (text : List ℕ) (at : ℕ) (items : List Item) (first : Item) (rest : List Item) (second : Item) → items ≡ first ∷ rest → Some second ≡ slice_get rest 0 → (l : PlainLiteral) → atom_at part (form_at text first) ≡ Ok l
+    → negation_in part at (forms_at text items) ≡ Err (Shape (place_of (form_at text second)))
+second_item part text at items first [] second begins is l e = absurd cc
+second_item part text at items first (other ∷ more) second begins is l e =
     let same : other ≡ second = cc in
-    ap (λ xs. negation_in at (forms_at text xs)) begins
+    ap (λ xs. negation_in part at (forms_at text xs)) begins
     ∙ ap (λ r. and_then {B = PlainLiteral} r (λ l. Err (Shape (place_of (form_at text other))))) e
     ∙ ap (λ x. Err (Shape (place_of (form_at text x)))) same

@@ -11,18 +11,18 @@ use Rattle.pddl_reader.specs.declared.faults.Feature.TheVariants.{EitherOfNames}
 use Rattle.pddl_reader.specs.declared.kinds.Listed.{Listed}
 use Rattle.pddl_reader.specs.declared.kinds.Listed.TheVariants.{Names, Variables}
 use Rattle.pddl_reader.specs.declared.kinds.Part.{Part}
-use Rattle.pddl_reader.specs.declared.kinds.Part.TheVariants.{Effect}
 use Rattle.pddl_reader.specs.Forms.{Word, Form, Forms, Leaf, Group, End, Then, forms_in, place_of}
 use Rattle.pddl_reader.specs.Values.{PlainTerm, PlainLiteral}
-use Rattle.pddl_reader.specs.Classes.{is_name, is_element, is_predicate}
+use Rattle.pddl_reader.specs.Classes.{is_name, is_element, takes_negation, is_predicate}
+use Rattle.pddl_reader.specs.Conditions.{has_enough}
 use Rattle.pddl_reader.specs.Typed.{TypedGroup, AreElements, IsTypedGroup, group_forms, typed_by, untyped}
 use Rattle.pddl_reader.specs.Faults.{IsFirstFaulty, IsNameForm, IsNoName, HasHead, IsEitherFault, IsTypeFault, HasNoPlace, IsTypedRestFault, IsTypedFault, IsTermForm, IsNoTerm, IsAtomListFault, IsAtomFault, IsAtomForm, IsNegationFault, IsConditionFault, AreConditionsFault}
-use Rattle.pddl_reader.specs.Reading.{Read, and_then, each_at, name_at, some_names, either_at, begins_either, type_at, is_some_dash, typed_from, term_at, atom_by, atom_in, atom_at, negative_of, negation_in, is_effect, condition_at, conditions_at}
+use Rattle.pddl_reader.specs.Reading.{Read, and_then, each_at, name_at, some_names, either_at, begins_either, type_at, is_some_dash, typed_from, term_at, atom_by, atom_in, atom_at, negative_of, negation_in, condition_at, conditions_at}
 use Rattle.pddl_reader.proofs.EachLaws.{and_then-from}
 use Rattle.pddl_reader.proofs.NameLaws.{same_bytes, bytes_same, bytes_other, name_reads}
 use Rattle.pddl_reader.proofs.TypedLaws.{forms_back, type_reads, heads_either, either_head, dash_other, dash_some, behind_dash, at_other, at_end, elements_wait, regrouped}
-use Rattle.pddl_reader.proofs.AtomLaws.{term_spells, term_reads, term_fault_place, terms_behind, atom_reads}
-use Rattle.pddl_reader.proofs.ConditionLaws.{effect_is, is_of_effect, is_negation, literal_at, condition_reads}
+use Rattle.pddl_reader.proofs.AtomLaws.{term_spells, term_reads, term_fault_place, terms_behind, behind_predicate, atom_reads}
+use Rattle.pddl_reader.proofs.ConditionLaws.{is_negation, literal_at, condition_reads}
 
 -- a fault of the first step is one of both
 pub and_then-fails : {A B : Type 0} (r : Read A) (f : A → Read B) (fault : PddlFault) → r ≡ Err fault → and_then r f ≡ Err fault
@@ -171,9 +171,13 @@ module _ (part : Part) where
   atom_in_fails at (Group a inner ∷ forms) fault h = ap Err (sym h)
   atom_in_fails at (Leaf w ∷ forms) fault (inl (feature, is, e)) = ap (λ o. atom_by o part at w forms) is ∙ ap Err (sym e)
   atom_in_fails at (Leaf w ∷ forms) fault (inr (inl (plain, bad, e))) =
-      ap (λ o. atom_by o part at w forms) plain ∙ cond-false (is_predicate w.text) (terms_behind part w forms) (Err (Shape w.at)) bad ∙ ap Err (sym e)
-  atom_in_fails at (Leaf w ∷ forms) fault (inr (inr (plain, good, first))) =
-      ap (λ o. atom_by o part at w forms) plain ∙ cond-true (is_predicate w.text) (terms_behind part w forms) (Err (Shape w.at)) good
+      ap (λ o. atom_by o part at w forms) plain ∙ cond-false (is_predicate part w.text) (behind_predicate part at w forms) (Err (Shape w.at)) bad ∙ ap Err (sym e)
+  atom_in_fails at (Leaf w ∷ forms) fault (inr (inr (inl (plain, good, bare, e)))) =
+      ap (λ o. atom_by o part at w forms) plain ∙ cond-true (is_predicate part w.text) (behind_predicate part at w forms) (Err (Shape w.at)) good
+      ∙ cond-false (has_enough w.text forms) (terms_behind part w forms) (Err (Shape at)) bare ∙ ap Err (sym e)
+  atom_in_fails at (Leaf w ∷ forms) fault (inr (inr (inr (plain, good, enough, first)))) =
+      ap (λ o. atom_by o part at w forms) plain ∙ cond-true (is_predicate part w.text) (behind_predicate part at w forms) (Err (Shape w.at)) good
+      ∙ cond-true (has_enough w.text forms) (terms_behind part w forms) (Err (Shape at)) enough
       ∙ and_then-fails (each_at (term_at part) forms) (λ terms. let l : PlainLiteral = record { positive = true; predicate = w; terms = terms } in Ok l) fault
       (each_fails (term_at part) (IsTermForm part) (IsNoTerm part) term_given term_fails forms fault first)
 
@@ -186,14 +190,14 @@ module _ (part : Part) where
       let l : PlainLiteral = record { positive = true; predicate = predicate; terms = terms } in
       (l, atom_reads part f l refl is)
 
-negation_fails : (at : ℕ) (forms : List Form) (fault : PddlFault) → IsNegationFault at forms fault → negation_in at forms ≡ Err fault
-negation_fails at [] fault h = ap Err (sym h)
-negation_fails at (f ∷ []) fault h = and_then-fails (atom_at Effect f) (λ l. Ok (negative_of l)) fault (atom_fails Effect f fault h)
-negation_fails at (f ∷ g ∷ forms) fault (inl bad) =
-    and_then-fails (atom_at Effect f) (λ l. Err (Shape (place_of g))) fault (atom_fails Effect f fault bad)
-negation_fails at (f ∷ g ∷ forms) fault (inr (is, e)) =
-    let atom = atom_given Effect f is in
-    and_then-from (atom_at Effect f) (λ l. Err (Shape (place_of g))) atom.0 (Err fault) atom.1 (ap Err (sym e))
+negation_fails : (part : Part) (at : ℕ) (forms : List Form) (fault : PddlFault) → IsNegationFault part at forms fault → negation_in part at forms ≡ Err fault
+negation_fails part at [] fault h = ap Err (sym h)
+negation_fails part at (f ∷ []) fault h = and_then-fails (atom_at part f) (λ l. Ok (negative_of l)) fault (atom_fails part f fault h)
+negation_fails part at (f ∷ g ∷ forms) fault (inl bad) =
+    and_then-fails (atom_at part f) (λ l. Err (Shape (place_of g))) fault (atom_fails part f fault bad)
+negation_fails part at (f ∷ g ∷ forms) fault (inr (is, e)) =
+    let atom = atom_given part f is in
+    and_then-from (atom_at part f) (λ l. Err (Shape (place_of g))) atom.0 (Err fault) atom.1 (ap Err (sym e))
 
 module _ (part : Part) where
   -- one literal that fails, by its head
@@ -213,17 +217,17 @@ module _ (part : Part) where
         cond-true (bytes_eq (codes "and") w.text) (conditions_at part rest) (and_then (literal_at part at w rest) (λ l. Ok (l ∷ [])))
         (bytes_same (codes "and") w.text is)
         ∙ conditions_fail rest fault bad
-    condition_fails (Group at (Then (Leaf w) rest)) fault (inr (inl (is, effect, bad))) =
+    condition_fails (Group at (Then (Leaf w) rest)) fault (inr (inl (is, takes, bad))) =
         literal_fails at w rest fault (ap (bytes_eq (codes "and")) is)
-        (cond-true (is_negation part w) (negation_in at (forms_in rest)) (atom_at part (Group at (Then (Leaf w) rest)))
-        (and_from (bytes_eq (codes "not") w.text) (is_effect part) (bytes_same (codes "not") w.text is) (is_of_effect part effect))
-        ∙ negation_fails at (forms_in rest) fault bad)
+        (cond-true (is_negation part w) (negation_in part at (forms_in rest)) (atom_at part (Group at (Then (Leaf w) rest)))
+        (and_from (bytes_eq (codes "not") w.text) (takes_negation part) (bytes_same (codes "not") w.text is) takes)
+        ∙ negation_fails part at (forms_in rest) fault bad)
     condition_fails (Group at (Then (Leaf w) rest)) fault (inr (inr (other, positive, bad))) =
         literal_fails at w rest fault (bytes_other (codes "and") w.text other)
-        (cond-false (is_negation part w) (negation_in at (forms_in rest)) (atom_at part (Group at (Then (Leaf w) rest)))
+        (cond-false (is_negation part w) (negation_in part at (forms_in rest)) (atom_at part (Group at (Then (Leaf w) rest)))
         (false_from_ne_true (is_negation part w) (λ e.
-        let is = and_parts (bytes_eq (codes "not") w.text) (is_effect part) e in
-        positive (same_bytes (codes "not") w.text is.0) (effect_is part is.1)))
+        let is = and_parts (bytes_eq (codes "not") w.text) (takes_negation part) e in
+        positive (same_bytes (codes "not") w.text is.0) is.1))
         ∙ atom_fails part (Group at (Then (Leaf w) rest)) fault bad)
 
     conditions_fail : (forms : Forms) (fault : PddlFault) → AreConditionsFault part forms fault → conditions_at part forms ≡ Err fault

@@ -17,9 +17,10 @@ use Rattle.pddl_reader.specs.declared.kinds.Part.{Part}
 use Rattle.pddl_reader.specs.declared.kinds.Part.TheVariants.{Precondition, Effect, Start}
 use Rattle.pddl_reader.specs.declared.kinds.SectionKind.{SectionKind}
 use Rattle.pddl_reader.specs.declared.kinds.SectionKind.TheVariants.{Requirements, Types, Constants, Predicates, Action, Domain, Objects, Init, Goal}
-use Rattle.pddl_reader.specs.Classes.{is_name, is_variable, is_element, is_keyword, is_one_of, accepted, section_feature, head_feature, is_predicate}
+use Rattle.pddl_reader.specs.Classes.{is_name, is_variable, is_element, is_keyword, is_one_of, accepted, section_feature, head_feature, takes_negation, is_predicate}
+use Rattle.pddl_reader.specs.Conditions.{has_enough}
 use Rattle.pddl_reader.specs.Forms.{Word, Form, Forms, Leaf, Group, End, Then, forms_in}
-use Rattle.pddl_reader.specs.Reading.{Read, and_then, each_at, name_at, some_names, either_at, begins_either, type_at, is_some_dash, typed_from, takes_variables, term_at, atom_by, atom_in, atom_at, negation_in, is_effect, literal_in, condition_at, conditions_at, predicate_in, predicate_at, part_by, same_part, part_at, new_part, parts_from, action_in, requirement_at, one_name, one_form, content_in, kind_by, same_kind, is_repeated, new_kind, section_in, section_at, sections_from, head_at, document_rest, document_in, domain_of, domain_in, problem_of, problem_in}
+use Rattle.pddl_reader.specs.Reading.{Read, and_then, each_at, name_at, some_names, either_at, begins_either, type_at, is_some_dash, typed_from, takes_variables, term_at, atom_by, atom_in, atom_at, negation_in, literal_in, condition_at, conditions_at, predicate_in, predicate_at, part_by, same_part, part_at, new_part, parts_from, action_in, requirement_at, one_name, one_form, content_in, kind_by, same_kind, is_repeated, new_kind, section_in, section_at, sections_from, head_at, document_rest, document_in, domain_of, domain_in, problem_of, problem_in}
 use Rattle.pddl_reader.specs.Sections.{SectionValue, kind_of, kinds_of, domains_in}
 use Rattle.pddl_reader.specs.Spelling.{document_word}
 
@@ -83,7 +84,9 @@ on_term part (Group at forms) = refl
 on_atom_by : (feature : Option Feature) (part : Part) (at : ℕ) (w : Word) (forms : List Form) → IsOnForms (atom_by feature part at w forms)
 on_atom_by (Some feature) part at w forms = refl
 on_atom_by None part at w forms =
-    on_if (is_predicate w.text) _ (Err (Shape w.at)) (on_then (each_at (term_at part) forms) _ (on_each (term_at part) (on_term part) forms) (λ terms. tt)) refl
+    on_if (is_predicate part w.text) _ (Err (Shape w.at))
+    (on_if (has_enough w.text forms) _ (Err (Shape at)) (on_then (each_at (term_at part) forms) _ (on_each (term_at part) (on_term part) forms) (λ terms. tt)) refl)
+    refl
 
 on_atom_in : (part : Part) (at : ℕ) (forms : List Form) → IsOnForms (atom_in part at forms)
 on_atom_in part at [] = refl
@@ -94,15 +97,15 @@ on_atom : (part : Part) (f : Form) → IsOnForms (atom_at part f)
 on_atom part (Leaf w) = refl
 on_atom part (Group at forms) = on_atom_in part at (forms_in forms)
 
-on_negation : (at : ℕ) (forms : List Form) → IsOnForms (negation_in at forms)
-on_negation at [] = refl
-on_negation at (f ∷ []) = on_then (atom_at Effect f) _ (on_atom Effect f) (λ l. tt)
-on_negation at (f ∷ g ∷ forms) = on_then (atom_at Effect f) _ (on_atom Effect f) (λ l. refl)
+on_negation : (part : Part) (at : ℕ) (forms : List Form) → IsOnForms (negation_in part at forms)
+on_negation part at [] = refl
+on_negation part at (f ∷ []) = on_then (atom_at part f) _ (on_atom part f) (λ l. tt)
+on_negation part at (f ∷ g ∷ forms) = on_then (atom_at part f) _ (on_atom part f) (λ l. refl)
 
 on_literal : (part : Part) (at : ℕ) (w : Word) (forms : List Form) → IsOnForms (literal_in part at w forms)
 on_literal part at w forms =
-    on_then (if bytes_eq (codes "not") w.text && is_effect part then negation_in at forms else atom_in part at (Leaf w ∷ forms)) _
-    (on_if (bytes_eq (codes "not") w.text && is_effect part) (negation_in at forms) (atom_in part at (Leaf w ∷ forms)) (on_negation at forms) (on_atom_in part at (Leaf w ∷ forms)))
+    on_then (if bytes_eq (codes "not") w.text && takes_negation part then negation_in part at forms else atom_in part at (Leaf w ∷ forms)) _
+    (on_if (bytes_eq (codes "not") w.text && takes_negation part) (negation_in part at forms) (atom_in part at (Leaf w ∷ forms)) (on_negation part at forms) (on_atom_in part at (Leaf w ∷ forms)))
     (λ l. tt)
 
 mutual

@@ -8,9 +8,9 @@ use Rattle.pddl_reader.specs.Kinds.{Listed, Names, Variables, Part, Precondition
 use Rattle.pddl_reader.specs.Forms.{Word, Form, Forms, Leaf, Group, End, Then, forms_of}
 use Rattle.pddl_reader.specs.Values.{PlainTypedName, PlainTerm, PlainLiteral, PlainSchema, PlainPredicate}
 use Rattle.pddl_reader.specs.Values.PlainTerm.{Variable, Constant}
-use Rattle.pddl_reader.specs.Classes.{is_element}
+use Rattle.pddl_reader.specs.Classes.{is_element, takes_negation}
 use Rattle.pddl_reader.specs.Typed.{IsNameWord, IsType, TypedGroup, AreElements, IsTypedGroup, group_forms, group_value, untyped, IsTypedList}
-use Rattle.pddl_reader.specs.Conditions.{IsTerm, AreTerms, IsAtom, IsLiteral, IsCondition, AreConditions, IsStartAtom}
+use Rattle.pddl_reader.specs.Conditions.{IsTerm, AreTerms, has_enough, IsAtom, IsLiteral, IsCondition, AreConditions, IsStartAtom}
 use Rattle.pddl_reader.specs.Sections.{Pairwise, PartValue, HasParameters, HasPrecondition, HasEffect, IsPart, AreParts, parameters_in, preconditions_in, effects_in, IsAction, IsPredicate, SectionValue, HasTypes, HasConstants, HasPredicates, HasAction, HasDomain, HasObjects, HasInit, IsContent, IsSection, types_in, constants_in, section_predicates_in, actions_in, domains_in, objects_in, init_in}
 use Rattle.pddl_reader.specs.Words.{AllWords, AllWordsOf, AllTerm}
 use Rattle.pddl_reader.proofs.NamesOfValues.{SoundTypes, SoundTyped, SoundTerm, SoundLiteral, SoundSchema, SoundPredicate, SoundName}
@@ -86,7 +86,14 @@ module _ (P : List ℕ → Type 0) where
       let rest = terms_names part forms terms are.1 h.1 in
       (All-cons (SoundTerm part) t terms first.0 rest.0, All-cons (AllTerm P) t terms first.1 rest.1)
 
-  pub atom_names : (part : Part) (f : Form) (l : PlainLiteral) → (l.positive ≡ true) ⊎ (l.positive ≡ false) × (part ≡ Effect)
+  -- as many terms as forms
+  enough_terms : (part : Part) (predicate : List ℕ) (forms : List Form) (terms : List PlainTerm) → AreTerms part forms terms → has_enough predicate forms ≡ true → has_enough predicate terms ≡ true
+  enough_terms part predicate [] [] are h = h
+  enough_terms part predicate [] (t ∷ terms) are h = absurd are
+  enough_terms part predicate (f ∷ forms) [] are h = absurd are
+  enough_terms part predicate (f ∷ forms) (t ∷ terms) are h = refl
+
+  pub atom_names : (part : Part) (f : Form) (l : PlainLiteral) → (l.positive ≡ true) ⊎ (l.positive ≡ false) × (takes_negation part ≡ true)
       → IsAtom part f l.predicate l.terms → AllWords P f → SoundLiteral P part l
   atom_names part f l sign is h =
       let inside = subst (AllWords P) is.whole h in
@@ -95,15 +102,16 @@ module _ (P : List ℕ → Type 0) where
         sign = sign;
         name = is.name;
         plain = is.plain;
+        enough = enough_terms part l.predicate.text is.forms l.terms is.are_terms is.enough;
         terms = terms.0;
         named = record { predicate = inside.0; terms = terms.1 };
       }
 
   literal_names : (part : Part) (f : Form) (l : PlainLiteral) → IsLiteral part f l → AllWords P f → SoundLiteral P part l
   literal_names part f l (inl (positive, is)) h = atom_names part f l (inl positive) is h
-  literal_names part f l (inr (negative, effect, at, head, inner, whole, not_word, is)) h =
+  literal_names part f l (inr (negative, takes, at, head, inner, whole, not_word, is)) h =
       let inside = subst (AllWords P) whole h in
-      atom_names part inner l (inr (negative, effect)) is inside.1.0
+      atom_names part inner l (inr (negative, takes)) is inside.1.0
 
   mutual
     pub condition_names : (part : Part) (f : Form) (ls : List PlainLiteral) → IsCondition part f ls → AllWords P f → All (SoundLiteral P part) ls

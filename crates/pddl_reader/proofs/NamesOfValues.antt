@@ -6,7 +6,8 @@ use Rattle.pddl_reader.specs.Kinds.{Listed, Names, Variables, Part, Precondition
 use Rattle.pddl_reader.specs.Forms.{Word}
 use Rattle.pddl_reader.specs.Values.{PlainTypedName, PlainTerm, PlainLiteral, PlainSchema, PlainPredicate, PlainDomain, PlainProblem}
 use Rattle.pddl_reader.specs.Values.PlainTerm.{Variable, Constant}
-use Rattle.pddl_reader.specs.Classes.{is_name, is_variable, is_element, is_predicate, head_feature}
+use Rattle.pddl_reader.specs.Classes.{is_name, is_variable, is_element, takes_negation, is_predicate, head_feature}
+use Rattle.pddl_reader.specs.Conditions.{has_enough}
 use Rattle.pddl_reader.specs.Typed.{IsNameWord}
 use Rattle.pddl_reader.specs.Words.{AllTyped, AllLiteral}
 
@@ -27,11 +28,12 @@ SoundTerm Precondition (Variable w) = IsTrue (is_variable w.text)
 SoundTerm Effect (Variable w) = IsTrue (is_variable w.text)
 SoundTerm Start (Variable w) = ⊥
 
--- effects alone are negative
+-- preconditions and effects may be negative; preconditions alone have equalities
 pub record SoundLiteral (P : List ℕ → Type 0) (part : Part) (l : PlainLiteral) : Type 0 where
-  pub sign : (l.positive ≡ true) ⊎ (l.positive ≡ false) × (part ≡ Effect)
-  pub name : IsTrue (is_predicate l.predicate.text)
+  pub sign : (l.positive ≡ true) ⊎ (l.positive ≡ false) × (takes_negation part ≡ true)
+  pub name : IsTrue (is_predicate part l.predicate.text)
   pub plain : head_feature part l.predicate.text ≡ None
+  pub enough : IsTrue (has_enough l.predicate.text l.terms)
   pub terms : All (SoundTerm part) l.terms
   pub named : AllLiteral P l
 

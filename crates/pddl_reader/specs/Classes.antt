@@ -1,5 +1,5 @@
 -- The classes of words, and the words that have a meaning of their own.
-use Rattle.std.specs.Prelude.{ℕ, Bool, false, not, ◌==◌, ◌&&◌, ◌||◌, List, [], ◌∷◌, codes, Option, Some, None, if◌then◌else◌}
+use Rattle.std.specs.Prelude.{ℕ, Bool, true, false, not, ◌==◌, ◌&&◌, ◌||◌, List, [], ◌∷◌, codes, Option, Some, None, if◌then◌else◌}
 use Rattle.std.specs.List.{list_any, list_all}
 use Rattle.std.specs.Str.{bytes_eq}
 use Rattle.std.specs.Char.{is_ascii_alphanumeric}
@@ -8,7 +8,7 @@ use Rattle.pddl_reader.specs.declared.kinds.Listed.TheVariants.{Names, Variables
 use Rattle.pddl_reader.specs.declared.kinds.Part.{Part}
 use Rattle.pddl_reader.specs.declared.kinds.Part.TheVariants.{Precondition, Effect, Start}
 use Rattle.pddl_reader.specs.declared.faults.Feature.{Feature}
-use Rattle.pddl_reader.specs.declared.faults.Feature.TheVariants.{Functions, Derived, Durative, Constraints, Metric, Disjunction, Implication, Quantifier, Conditional, Preference, NumericEffect, NumericCondition, Equality, NegativePrecondition, NegativeInit}
+use Rattle.pddl_reader.specs.declared.faults.Feature.TheVariants.{Functions, Derived, Durative, Constraints, Metric, Disjunction, Implication, Quantifier, Conditional, Preference, NumericEffect, NumericCondition, Equality, NegativeInit}
 
 -- letters, digits, hyphens and underscores
 abbrev pub is_name_byte : ℕ → Bool
@@ -51,15 +51,29 @@ section_feature text =
     if bytes_eq (codes ":constraints") text then Some Constraints else
     if is_one_of (codes ":metric" ∷ codes ":length" ∷ []) text then Some Metric else None
 
--- the feature that an equality sign names where a condition or an atom may stand
-abbrev pub equality_feature : Part → Feature
-equality_feature Precondition = Equality
-equality_feature Effect = Equality
-equality_feature Start = NumericCondition
+-- whether an equality may stand where an atom may; and whether a negation may stand there
+abbrev pub takes_equality : Part → Bool
+takes_equality Precondition = true
+takes_equality Effect = false
+takes_equality Start = false
+
+abbrev pub takes_negation : Part → Bool
+takes_negation Precondition = true
+takes_negation Effect = true
+takes_negation Start = false
+
+abbrev pub is_equality : List ℕ → Bool
+is_equality text = bytes_eq (codes "=") text
+
+-- the feature that the equality sign names where a condition or an atom may stand, if any
+abbrev pub equality_feature : Part → Option Feature
+equality_feature Precondition = None
+equality_feature Effect = Some Equality
+equality_feature Start = Some NumericCondition
 
 -- the feature that 'not' names there, if any
 abbrev pub not_feature : Part → Option Feature
-not_feature Precondition = Some NegativePrecondition
+not_feature Precondition = None
 not_feature Effect = None
 not_feature Start = Some NegativeInit
 
@@ -73,9 +87,13 @@ head_feature part text =
     if bytes_eq (codes "preference") text then Some Preference else
     if is_one_of (codes "increase" ∷ codes "decrease" ∷ codes "assign" ∷ codes "scale-up" ∷ codes "scale-down" ∷ []) text then Some NumericEffect else
     if is_one_of (codes "<" ∷ codes ">" ∷ codes "<=" ∷ codes ">=" ∷ []) text then Some NumericCondition else
-    if bytes_eq (codes "=") text then Some (equality_feature part) else
+    if is_equality text then equality_feature part else
     if bytes_eq (codes "not") text then not_feature part else None
 
--- whether the word may be the predicate of an atom: a name other than 'and' and 'not'
-abbrev pub is_predicate : List ℕ → Bool
-is_predicate text = is_name text && not (is_one_of (codes "and" ∷ codes "not" ∷ []) text)
+-- whether the text may be the name of an atom's predicate: a name other than 'and' and 'not'
+abbrev pub is_predicate_name : List ℕ → Bool
+is_predicate_name text = is_name text && not (is_one_of (codes "and" ∷ codes "not" ∷ []) text)
+
+-- whether the word may be the predicate of an atom in the part: such a name or, where an equality may stand, its sign
+abbrev pub is_predicate : Part → List ℕ → Bool
+is_predicate part text = is_predicate_name text || (takes_equality part && is_equality text)

@@ -1,9 +1,9 @@
 -- Atoms, literals and conditions.
-use Rattle.std.specs.Prelude.{◌≡◌, ℕ, true, false, ◌⊎◌, IsTrue, List, [], ◌∷◌, ◌++◌, codes, None}
+use Rattle.std.specs.Prelude.{◌≡◌, ℕ, Bool, true, false, not, ◌⊎◌, IsTrue, List, [], ◌∷◌, ◌++◌, codes, None}
 use Rattle.pddl_reader.specs.Forms.{Word, Form, Forms, Leaf, Group, End, Then, group}
 use Rattle.pddl_reader.specs.Values.{PlainTerm, PlainLiteral}
 use Rattle.pddl_reader.specs.Values.PlainTerm.{Variable, Constant}
-use Rattle.pddl_reader.specs.Classes.{is_name, is_variable, is_predicate, head_feature}
+use Rattle.pddl_reader.specs.Classes.{is_name, is_variable, takes_negation, is_equality, is_predicate, head_feature}
 use Rattle.pddl_reader.specs.declared.kinds.Part.{Part}
 use Rattle.pddl_reader.specs.declared.kinds.Part.TheVariants.{Precondition, Effect, Start}
 
@@ -20,20 +20,26 @@ AreTerms part [] [] = Unit {0}
 AreTerms part (f ∷ forms) (t ∷ terms) = IsTerm part f t × AreTerms part forms terms
 AreTerms part forms terms = ⊥
 
--- the form is an atom of this predicate and these terms; no head of a feature is a predicate there
+-- whether so many terms may stand behind the predicate: an equality has one or more
+abbrev pub has_enough : {T : Type 0} → List ℕ → List T → Bool
+has_enough predicate [] = not (is_equality predicate)
+has_enough predicate (t ∷ terms) = true
+
+-- the form is an atom of this predicate and these terms, or an equality; no head of a feature is a predicate there
 pub record IsAtom (part : Part) (f : Form) (predicate : Word) (terms : List PlainTerm) : Type 0 where
   pub at : ℕ
   pub forms : List Form
   pub whole : f ≡ group at (Leaf predicate ∷ forms)
-  pub name : IsTrue (is_predicate predicate.text)
+  pub name : IsTrue (is_predicate part predicate.text)
   pub plain : head_feature part predicate.text ≡ None
+  pub enough : IsTrue (has_enough predicate.text forms)
   pub are_terms : AreTerms part forms terms
 
--- the form is the literal: an atom or, in an effect, 'not' and an atom
+-- the form is the literal: an atom or, in a precondition or an effect, 'not' and an atom
 abbrev pub IsLiteral : Part → Form → PlainLiteral → Type 0
 IsLiteral part f l =
     ((l.positive ≡ true) × IsAtom part f l.predicate l.terms)
-    ⊎ ((l.positive ≡ false) × (part ≡ Effect)
+    ⊎ ((l.positive ≡ false) × IsTrue (takes_negation part)
     × (at : ℕ) × (head : Word) × (inner : Form) × (f ≡ group at (Leaf head ∷ inner ∷ []))
     × (head.text ≡ codes "not") × IsAtom part inner l.predicate l.terms)
 

@@ -1,5 +1,5 @@
 -- What is at fault in a text that spells no domain or problem: the first faulty item in text order.
-use Rattle.std.specs.Prelude.{◌≡◌, ◌≢◌, ℕ, ◌<◌, ◌⊎◌, true, false, List, [], ◌∷◌, ◌++◌, length, map, codes, Some, None, All, AllPairs, Contains}
+use Rattle.std.specs.Prelude.{◌≡◌, ◌≢◌, ℕ, ◌<◌, ◌⊎◌, true, false, List, [], ◌∷◌, ◌++◌, length, map, codes, Some, None, All, AllPairs, Contains, IsTrue}
 use Rattle.std.specs.List.{flat_map}
 use Rattle.pddl_lexer.specs.declared.token.Token.{Token}
 use Rattle.pddl_lexer.specs.declared.faults.LexFault.{LexFault}
@@ -24,9 +24,9 @@ use Rattle.pddl_reader.specs.declared.kinds.ActionPart.{ActionPart}
 use Rattle.pddl_reader.specs.declared.kinds.ActionPart.TheVariants.{Parameters, Precondition as PartPrecondition, Effect as PartEffect}
 use Rattle.pddl_reader.specs.Forms.{Word, Form, Forms, Leaf, Group, End, Then, group, forms_in, place_of}
 use Rattle.pddl_reader.specs.Values.{PlainTerm, PlainLiteral, PlainPredicate}
-use Rattle.pddl_reader.specs.Classes.{is_element, is_keyword, is_one_of, accepted, section_feature, head_feature, is_predicate}
+use Rattle.pddl_reader.specs.Classes.{is_element, is_keyword, is_one_of, accepted, section_feature, head_feature, takes_negation, is_predicate}
 use Rattle.pddl_reader.specs.Typed.{IsNameWord, TypedGroup, IsTypedGroup, AreElements, group_forms}
-use Rattle.pddl_reader.specs.Conditions.{IsTerm, IsAtom, IsCondition, IsStartAtom}
+use Rattle.pddl_reader.specs.Conditions.{IsTerm, has_enough, IsAtom, IsCondition, IsStartAtom}
 use Rattle.pddl_reader.specs.Sections.{Pairwise, PartValue, part_of, part_keyword, AreParts, IsPredicate, SectionValue, IsSection, kind_of, kinds_of, keyword_of, IsAccepted}
 use Rattle.pddl_reader.specs.Spelling.{IsFormOf, document_word, IsDocument}
 
@@ -116,14 +116,16 @@ abbrev pub IsNoTerm : Part → Form → PddlFault → Type 0
 IsNoTerm part f fault = (IsTermForm part f → ⊥) × (fault ≡ Shape (place_of f))
 
 -- what is at fault in the place of an atom: it is no list, or lacks its head; its head is a list, names a
--- feature, or is no predicate; or one of the forms behind it is no term
+-- feature, or is no predicate; it is an equality and lacks its terms; or one of the forms behind it is no term
 abbrev pub IsAtomListFault : Part → ℕ → List Form → PddlFault → Type 0
 IsAtomListFault part at [] fault = fault ≡ Shape at
 IsAtomListFault part at (Group a inner ∷ forms) fault = fault ≡ Shape a
 IsAtomListFault part at (Leaf w ∷ forms) fault =
     ((feature : Feature) × (head_feature part w.text ≡ Some feature) × (fault ≡ Unsupported at feature))
-    ⊎ ((head_feature part w.text ≡ None) × (is_predicate w.text ≡ false) × (fault ≡ Shape w.at))
-    ⊎ ((head_feature part w.text ≡ None) × (is_predicate w.text ≡ true) × IsFirstFaulty (IsTermForm part) (IsNoTerm part) forms fault)
+    ⊎ ((head_feature part w.text ≡ None) × (is_predicate part w.text ≡ false) × (fault ≡ Shape w.at))
+    ⊎ ((head_feature part w.text ≡ None) × (is_predicate part w.text ≡ true) × (has_enough w.text forms ≡ false) × (fault ≡ Shape at))
+    ⊎ ((head_feature part w.text ≡ None) × (is_predicate part w.text ≡ true) × (has_enough w.text forms ≡ true)
+    × IsFirstFaulty (IsTermForm part) (IsNoTerm part) forms fault)
 
 abbrev pub IsAtomFault : Part → Form → PddlFault → Type 0
 IsAtomFault part (Leaf w) fault = fault ≡ Shape w.at
@@ -133,11 +135,11 @@ IsAtomFault part (Group at forms) fault = IsAtomListFault part at (forms_in form
 abbrev pub IsAtomForm : Part → Form → Type 0
 IsAtomForm part f = (predicate : Word) × (terms : List PlainTerm) × IsAtom part f predicate terms
 
--- what is at fault behind 'not' in an effect: that nothing stands there, the first form, or a second one
-abbrev pub IsNegationFault : ℕ → List Form → PddlFault → Type 0
-IsNegationFault at [] fault = fault ≡ Shape at
-IsNegationFault at (f ∷ []) fault = IsAtomFault Effect f fault
-IsNegationFault at (f ∷ g ∷ forms) fault = IsAtomFault Effect f fault ⊎ (IsAtomForm Effect f × (fault ≡ Shape (place_of g)))
+-- what is at fault behind 'not': that nothing stands there, the first form, or a second one
+abbrev pub IsNegationFault : Part → ℕ → List Form → PddlFault → Type 0
+IsNegationFault part at [] fault = fault ≡ Shape at
+IsNegationFault part at (f ∷ []) fault = IsAtomFault part f fault
+IsNegationFault part at (f ∷ g ∷ forms) fault = IsAtomFault part f fault ⊎ (IsAtomForm part f × (fault ≡ Shape (place_of g)))
 
 -- what is at fault in a condition
 abbrev mutual
@@ -147,8 +149,8 @@ abbrev mutual
   IsConditionFault part (Group at (Then (Group a inner) rest)) fault = fault ≡ Shape a
   IsConditionFault part (Group at (Then (Leaf w) rest)) fault =
       ((w.text ≡ codes "and") × AreConditionsFault part rest fault)
-      ⊎ ((w.text ≡ codes "not") × (part ≡ Effect) × IsNegationFault at (forms_in rest) fault)
-      ⊎ ((w.text ≢ codes "and") × (w.text ≡ codes "not" → part ≡ Effect → ⊥) × IsAtomFault part (Group at (Then (Leaf w) rest)) fault)
+      ⊎ ((w.text ≡ codes "not") × IsTrue (takes_negation part) × IsNegationFault part at (forms_in rest) fault)
+      ⊎ ((w.text ≢ codes "and") × (w.text ≡ codes "not" → IsTrue (takes_negation part) → ⊥) × IsAtomFault part (Group at (Then (Leaf w) rest)) fault)
 
   -- in the first condition that has a fault
   pub AreConditionsFault : Part → Forms → PddlFault → Type 0

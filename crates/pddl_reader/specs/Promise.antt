@@ -11,13 +11,14 @@ pub use Rattle.pddl_reader.specs.Values.{PlainPredicate, PlainDomain, PlainProbl
 pub use Rattle.pddl_reader.specs.Terms.{plain_term}
 -- The classes of words, and the words that have a meaning of their own.
 pub use Rattle.pddl_reader.specs.Classes.{is_name_byte, is_name, is_variable, is_keyword, is_element}
-pub use Rattle.pddl_reader.specs.Classes.{is_one_of, accepted, section_feature, equality_feature}
-pub use Rattle.pddl_reader.specs.Classes.{not_feature, head_feature, is_predicate}
+pub use Rattle.pddl_reader.specs.Classes.{is_one_of, accepted, section_feature, takes_equality, takes_negation}
+pub use Rattle.pddl_reader.specs.Classes.{is_equality, equality_feature, not_feature, head_feature}
+pub use Rattle.pddl_reader.specs.Classes.{is_predicate_name, is_predicate}
 -- Typed lists.
 pub use Rattle.pddl_reader.specs.Typed.{IsNameWord, IsEither, IsType, TypedGroup, AreElements, IsTypedGroup}
 pub use Rattle.pddl_reader.specs.Typed.{group_forms, typed_by, group_value, untyped, IsTypedList}
 -- Atoms, literals and conditions.
-pub use Rattle.pddl_reader.specs.Conditions.{IsTerm, AreTerms, IsAtom, IsStartAtom}
+pub use Rattle.pddl_reader.specs.Conditions.{IsTerm, AreTerms, has_enough, IsAtom, IsStartAtom}
 -- The sections of domains and problems.
 pub use Rattle.pddl_reader.specs.Sections.{Pairwise, part_keyword, PartValue, part_of, IsPart, AreParts}
 pub use Rattle.pddl_reader.specs.Sections.{parameters_in, preconditions_in, effects_in, IsAction}

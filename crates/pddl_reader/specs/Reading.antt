@@ -5,7 +5,8 @@ use Rattle.std.specs.Str.{bytes_eq}
 use Rattle.pddl_reader.specs.Forms.{Word, Form, Forms, Leaf, Group, End, Then, forms_in, place_of}
 use Rattle.pddl_reader.specs.Values.{PlainTypedName, PlainTerm, PlainLiteral, PlainPredicate, PlainSchema, PlainDomain, PlainProblem}
 use Rattle.pddl_reader.specs.Values.PlainTerm.{Variable, Constant}
-use Rattle.pddl_reader.specs.Classes.{is_name, is_variable, is_element, is_keyword, is_one_of, accepted, section_feature, head_feature, is_predicate}
+use Rattle.pddl_reader.specs.Classes.{is_name, is_variable, is_element, is_keyword, is_one_of, accepted, section_feature, head_feature, takes_negation, is_predicate}
+use Rattle.pddl_reader.specs.Conditions.{has_enough}
 use Rattle.pddl_reader.specs.Typed.{typed_by, untyped}
 use Rattle.pddl_reader.specs.Sections.{PartValue, HasParameters, HasPrecondition, HasEffect, part_keyword, parameters_in, preconditions_in, effects_in, SectionValue, HasRequirements, HasTypes, HasConstants, HasPredicates, HasAction, HasDomain, HasObjects, HasInit, HasGoal, kind_of, kinds_of, keyword_of, types_in, constants_in, section_predicates_in, actions_in, domains_in, objects_in, init_in}
 use Rattle.pddl_reader.specs.Spelling.{document_word}
@@ -91,8 +92,10 @@ term_at part (Group at forms) = Err (Shape at)
 abbrev pub atom_by : Option Feature → Part → ℕ → Word → List Form → Read PlainLiteral
 atom_by (Some feature) part at w forms = Err (Unsupported at feature)
 atom_by None part at w forms =
-    if is_predicate w.text
+    if is_predicate part w.text then
+    (if has_enough w.text forms
     then and_then (each_at (term_at part) forms) (λ terms. Ok (record { positive = true; predicate = w; terms = terms }))
+    else Err (Shape at))
     else Err (Shape w.at)
 
 abbrev pub atom_in : Part → ℕ → List Form → Read PlainLiteral
@@ -107,19 +110,14 @@ atom_at part (Group at forms) = atom_in part at (forms_in forms)
 abbrev pub negative_of : PlainLiteral → PlainLiteral
 negative_of l = record { positive = false; predicate = l.predicate; terms = l.terms }
 
-abbrev pub negation_in : ℕ → List Form → Read PlainLiteral
-negation_in at [] = Err (Shape at)
-negation_in at (f ∷ []) = and_then (atom_at Effect f) (λ l. Ok (negative_of l))
-negation_in at (f ∷ g ∷ forms) = and_then (atom_at Effect f) (λ l. Err (Shape (place_of g)))
-
-abbrev pub is_effect : Part → Bool
-is_effect Precondition = false
-is_effect Effect = true
-is_effect Start = false
+abbrev pub negation_in : Part → ℕ → List Form → Read PlainLiteral
+negation_in part at [] = Err (Shape at)
+negation_in part at (f ∷ []) = and_then (atom_at part f) (λ l. Ok (negative_of l))
+negation_in part at (f ∷ g ∷ forms) = and_then (atom_at part f) (λ l. Err (Shape (place_of g)))
 
 abbrev pub literal_in : Part → ℕ → Word → List Form → Read (List PlainLiteral)
 literal_in part at w forms =
-    and_then (if bytes_eq (codes "not") w.text && is_effect part then negation_in at forms else atom_in part at (Leaf w ∷ forms)) (λ l. Ok (l ∷ []))
+    and_then (if bytes_eq (codes "not") w.text && takes_negation part then negation_in part at forms else atom_in part at (Leaf w ∷ forms)) (λ l. Ok (l ∷ []))
 
 abbrev mutual
   pub condition_at : Part → Form → Read (List PlainLiteral)

@@ -2,7 +2,7 @@ ghost use Rattle.std.specs.Prelude.{◌≡◌};
 ghost use Rattle.std.specs.List.{list_all, list_any};
 ghost use Rattle.std.specs.Char.{to_ascii_lowercase};
 ghost use Rattle.std.specs.Str.{bytes_eq, str_to_ascii_lowercase};
-ghost use Rattle.pddl_reader.specs.Classes.{is_name_byte, is_name, is_variable, is_keyword, is_element, is_one_of, accepted, section_feature, equality_feature, not_feature, head_feature, is_predicate};
+ghost use Rattle.pddl_reader.specs.Classes.{is_name_byte, is_name, is_variable, is_keyword, is_element, is_one_of, accepted, section_feature, takes_equality, takes_negation, is_equality, equality_feature, not_feature, head_feature, is_predicate_name, is_predicate};
 
 use crate::faults::Feature;
 use crate::kinds::{Listed, Part};
@@ -112,12 +112,40 @@ pub(crate) fn section_feature(text: &[u8]) -> Option<Feature>
     }
 }
 
-fn equality_feature(part: Part) -> Feature
+/// Whether an equality may stand where an atom may.
+fn takes_equality(part: Part) -> bool
+    ensures { result ≡ takes_equality part }
+{
+    match part {
+        Part::Precondition => true,
+        Part::Effect | Part::Start => false,
+    }
+}
+
+/// Whether a negation may stand where an atom may.
+pub(crate) fn takes_negation(part: Part) -> bool
+    ensures { result ≡ takes_negation part }
+{
+    match part {
+        Part::Precondition | Part::Effect => true,
+        Part::Start => false,
+    }
+}
+
+/// Whether the text is the sign of equality.
+pub(crate) fn is_equality(text: &[u8]) -> bool
+    ensures { result ≡ is_equality (str_to_ascii_lowercase text.now) }
+{
+    is(text, "=")
+}
+
+fn equality_feature(part: Part) -> Option<Feature>
     ensures { result ≡ equality_feature part }
 {
     match part {
-        Part::Precondition | Part::Effect => Feature::Equality,
-        Part::Start => Feature::NumericCondition,
+        Part::Precondition => None,
+        Part::Effect => Some(Feature::Equality),
+        Part::Start => Some(Feature::NumericCondition),
     }
 }
 
@@ -125,8 +153,7 @@ fn not_feature(part: Part) -> Option<Feature>
     ensures { result ≡ not_feature part }
 {
     match part {
-        Part::Precondition => Some(Feature::NegativePrecondition),
-        Part::Effect => None,
+        Part::Precondition | Part::Effect => None,
         Part::Start => Some(Feature::NegativeInit),
     }
 }
@@ -152,8 +179,8 @@ pub(crate) fn head_feature(part: Part, text: &[u8]) -> Option<Feature>
         Some(Feature::NumericEffect)
     } else if is_one_of(text, &["<", ">", "<=", ">="]) {
         Some(Feature::NumericCondition)
-    } else if is(text, "=") {
-        Some(equality_feature(part))
+    } else if is_equality(text) {
+        equality_feature(part)
     } else if is(text, "not") {
         not_feature(part)
     } else {
@@ -161,9 +188,16 @@ pub(crate) fn head_feature(part: Part, text: &[u8]) -> Option<Feature>
     }
 }
 
-/// Whether the text may be the predicate of an atom.
-pub(crate) fn is_predicate(text: &[u8]) -> bool
-    ensures { result ≡ is_predicate (str_to_ascii_lowercase text.now) }
+/// Whether the text may be the name of an atom's predicate.
+fn is_predicate_name(text: &[u8]) -> bool
+    ensures { result ≡ is_predicate_name (str_to_ascii_lowercase text.now) }
 {
     is_name(text) && !is_one_of(text, &["and", "not"])
+}
+
+/// Whether the text may be the predicate of an atom in the part, or the sign of an equality.
+pub(crate) fn is_predicate(part: Part, text: &[u8]) -> bool
+    ensures { result ≡ is_predicate part (str_to_ascii_lowercase text.now) }
+{
+    is_predicate_name(text) || (takes_equality(part) && is_equality(text))
 }

@@ -3,7 +3,8 @@ ghost use Rattle.pddl_reader.specs.Forms.{Leaf, word_of, form_at};
 ghost use Rattle.pddl_reader.specs.Items.{IsTokenOver, IsItemOver, AreItemsOver, forms_at, IsFaultOf};
 ghost use Rattle.pddl_reader.specs.Terms.{plain_term};
 ghost use Rattle.pddl_reader.specs.Steps.{behind};
-ghost use Rattle.pddl_reader.specs.Reading.{each_at, takes_variables, term_at, atom_in, atom_at, negation_in, is_effect, literal_in, condition_at};
+ghost use Rattle.pddl_reader.specs.Reading.{each_at, takes_variables, term_at, atom_in, atom_at, negation_in, literal_in, condition_at};
+ghost use Rattle.pddl_reader.specs.Conditions.{has_enough};
 
 use crate::classes;
 use crate::faults::PddlFault;
@@ -56,6 +57,17 @@ fn terms(alloc: Global, text: &[u8], part: Part, items: &[Item]) -> Result<Vec<T
     Ok(terms)
 }
 
+/// Whether the items may be the terms behind the head: an equality has one or more.
+fn has_enough(text: &[u8], head: Token, items: &[Item]) -> bool
+    requires { IsTokenOver text.now head }
+    ensures { result ≡ has_enough (word_of text.now head).text (forms_at text.now items.now) }
+{
+    match items {
+        [] => !classes::is_equality(bytes_of(text, head)),
+        [_, ..] => true,
+    }
+}
+
 /// Reads the atom of the list at the place, whose head stands in front of the items.
 fn atom_by(
     alloc: Global,
@@ -76,8 +88,11 @@ fn atom_by(
     if let Some(feature) = classes::head_feature(part, bytes) {
         return Err(PddlFault::Unsupported(at, feature));
     }
-    if !classes::is_predicate(bytes) {
+    if !classes::is_predicate(part, bytes) {
         return Err(PddlFault::Shape(head.from));
+    }
+    if !has_enough(text, head, items) {
+        return Err(PddlFault::Shape(at));
     }
     Ok(Literal {
         positive: true,
@@ -123,15 +138,21 @@ pub(crate) fn atom(
 }
 
 /// Reads what stands behind `not` in the list at the place.
-fn negation(alloc: Global, text: &[u8], at: u32, items: &[Item]) -> Result<Literal, PddlFault>
+fn negation(
+    alloc: Global,
+    text: &[u8],
+    part: Part,
+    at: u32,
+    items: &[Item],
+) -> Result<Literal, PddlFault>
     requires { AreItemsOver text.now items.now }
-    ensures read { IfOk result (λ l. negation_in at (forms_at text.now items.now) ≡ Ok l) }
-    ensures fault { IfErr result (IsFaultOf (negation_in at (forms_at text.now items.now))) }
+    ensures read { IfOk result (λ l. negation_in part at (forms_at text.now items.now) ≡ Ok l) }
+    ensures fault { IfErr result (IsFaultOf (negation_in part at (forms_at text.now items.now))) }
 {
     let Some((first, rest)) = items.split_first() else {
         return Err(PddlFault::Shape(at));
     };
-    let atom = atom(alloc, text, Part::Effect, first)?;
+    let atom = atom(alloc, text, part, first)?;
     match rest.first() {
         Some(second) => Err(PddlFault::Shape(place(second))),
         None => Ok(Literal {
@@ -139,15 +160,6 @@ fn negation(alloc: Global, text: &[u8], at: u32, items: &[Item]) -> Result<Liter
             predicate: atom.predicate,
             terms: atom.terms,
         }),
-    }
-}
-
-fn is_effect(part: Part) -> bool
-    ensures { result ≡ is_effect part }
-{
-    match part {
-        Part::Effect => true,
-        Part::Precondition | Part::Start => false,
     }
 }
 
@@ -168,8 +180,8 @@ fn literal(
     ensures fault { IfErr result
         (IsFaultOf (literal_in part at (word_of text.now head) (forms_at text.now items.now))) }
 {
-    if is_word(text, head, "not") && is_effect(part) {
-        negation(alloc, text, at, items)
+    if is_word(text, head, "not") && classes::takes_negation(part) {
+        negation(alloc, text, part, at, items)
     } else {
         atom_by(alloc, text, part, at, head, items)
     }

@@ -60,8 +60,6 @@ pub enum Feature {
     NumericCondition,
     #[error("equality")]
     Equality,
-    #[error("negative precondition")]
-    NegativePrecondition,
     #[error("negative initial atom")]
     NegativeInit,
 }

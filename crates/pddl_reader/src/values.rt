@@ -38,7 +38,8 @@ impl Model for Types {
 impl Types {
     ghost use Rattle.std.specs.Prelude.{◌≡◌, IfOk};
 
-    pub(crate) fn new(alloc: Global, names: Vec<Name>) -> Result<Types, AllocError>
+    /// The types of these names.
+    pub fn new(alloc: Global, names: Vec<Name>) -> Result<Types, AllocError>
         ensures { IfOk result (λ types. types ≡ names.items) }
     {
         Ok(Types {
@@ -87,7 +88,7 @@ pub enum Term {
     Constant(Name),
 }
 
-/// An atom, or its negation.
+/// An atom or an equality, or the negation of one. The predicate of an equality is the sign `=`.
 #[derive(Drop)]
 pub struct Literal {
     pub positive: bool,
