@@ -16,9 +16,11 @@ use Rattle.pddl_reader.specs.Sections.{Pairwise, IsPredicate, SectionValue, HasR
 use Rattle.pddl_reader.specs.Spelling.{document_word, IsDocument, IsDomain, IsProblem}
 use Rattle.pddl_reader.proofs.OnceLaws.{AllPairs-none}
 use Rattle.pddl_print.specs.Layouts.{unplaced_form}
-use Rattle.pddl_print.specs.CanonicalForms.{word, name_form, type_form, typed_forms, literal_form, condition_form, predicate_form, action_form, section_forms, domain_form, problem_form}
+use Rattle.pddl_print.specs.Canonical.{requirements}
+use Rattle.pddl_print.specs.CanonicalForms.{word, name_form, type_form, typed_forms, literal_form, condition_form, predicate_form, action_form, section_forms, requirements_form, domain_form, problem_form}
 use Rattle.pddl_reader.proofs.NamesOfValues.{SoundTyped, SoundLiteral, SoundSchema, SoundPredicate, SoundDomain, SoundProblem}
 use Rattle.pddl_reader.proofs.NamesOf.{domain_sound, problem_sound, Anything, any_words}
+use Rattle.pddl_print.proofs.Required.{all_requirements}
 use Rattle.pddl_print.proofs.AgainForms.{group_again, word_first, form_first, group_first, none_again, both_again, each_again, pairs_both, pairs_map}
 use Rattle.pddl_print.proofs.AgainValues.{same_name, typed_again, start_again}
 use Rattle.pddl_print.proofs.AgainSections.{accepted_again, predicate_again, action_again, section_of, SectionAgain, no_section, some_section, section_gives, section_skips, section_all, section_once, section_any, actions_all, actions_skip, Apart, actions_once}
@@ -172,12 +174,9 @@ behind_domain d =
     ++ section_forms (codes ":predicates") (map predicate_form d.predicates)
     ++ map action_form d.actions
 
-abbrev required_form : Form
-required_form = group 0 (word (codes ":requirements") ∷ word (codes ":strips") ∷ word (codes ":typing") ∷ [])
-
-requirements_again : (g : Form) → unplaced_form g ≡ required_form → IsSection g HasRequirements
-requirements_again g e =
-    let texts = codes ":strips" ∷ codes ":typing" ∷ [] in
+requirements_again : (actions : List PlainSchema) (g : Form) → unplaced_form g ≡ requirements_form actions → IsSection g HasRequirements
+requirements_again actions g e =
+    let texts = requirements actions in
     let whole = group_again g (word (codes ":requirements") ∷ map word texts) e in
     let head = word_first whole.1 (codes ":requirements") (map word texts) whole.3 in
     record {
@@ -186,10 +185,7 @@ requirements_again g e =
       forms = head.rest;
       whole = whole.2 ∙ ap (λ fs. group whole.0 fs) head.whole;
       keyword = head.same;
-      content = accepted_again texts head.rest
-          (All-cons (λ t. IsTrue (is_one_of accepted t)) (codes ":strips") (codes ":typing" ∷ []) refl
-          (All-cons (λ t. IsTrue (is_one_of accepted t)) (codes ":typing") [] refl (All-nil (λ t. IsTrue (is_one_of accepted t)))))
-          head.behind;
+      content = accepted_again texts head.rest (all_requirements (λ t. IsTrue (is_one_of accepted t)) refl refl refl refl actions) head.behind;
     }
 
 -- the parts of a list of forms that is given but for places
@@ -291,10 +287,10 @@ domain_from g d name forms gs required again whole is same spells = (
 
 domain_of_sound : (g : Form) (d : PlainDomain) → SoundDomain Anything d → unplaced_form g ≡ domain_form d → (e : PlainDomain) × IsDomain g e × IsSameDomain e d
 domain_of_sound g d sound e =
-    let begins = opened OfDomain g d.name (required_form ∷ behind_domain d) sound.name.0 e in
-    let first = form_first begins.forms required_form (behind_domain d) begins.behind in
+    let begins = opened OfDomain g d.name (requirements_form d.actions ∷ behind_domain d) sound.name.0 e in
+    let first = form_first begins.forms (requirements_form d.actions) (behind_domain d) begins.behind in
     domain_from g d begins.name begins.forms first.rest first.first (sections_again d first.rest sound first.behind) first.whole
-    (requirements_again first.first first.same) begins.same begins.spells
+    (requirements_again d.actions first.first first.same) begins.same begins.spells
 
 pub domain_again : (f g : Form) (d : PlainDomain) → IsDomain f d → unplaced_form g ≡ domain_form d → (e : PlainDomain) × IsDomain g e × IsSameDomain e d
 domain_again f g d is e = domain_of_sound g d (domain_sound Anything f d tt is (any_words f)) e

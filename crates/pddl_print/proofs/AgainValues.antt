@@ -3,16 +3,16 @@
 use Rattle.std.proofs.Common.{◌≡◌, ℕ, ◌<◌, true, false, List, [], ◌∷◌, length, map, refl, sym, ap, ap₂, ◌∙◌, subst, inl, inr, arith, codes}
 use Rattle.std.specs.Prelude.{IsTrue, All}
 use Rattle.std.specs.List.{flat_map}
-use Rattle.std.proofs.lemmas.Bool.{cond-true, cond-false}
+use Rattle.std.proofs.lemmas.Bool.{cond-true, cond-false, false≢true}
 use Rattle.std.proofs.lemmas.List.Elements.{All-nil, All-cons, All-head, All-tail}
 use Rattle.pddl_reader.specs.Kinds.{Listed, Names, Variables, Part, Precondition, Effect, Start}
 use Rattle.pddl_reader.specs.Forms.{Word, Form, Leaf, forms_of, group}
 use Rattle.pddl_reader.specs.Values.{PlainTypedName, PlainTerm, PlainLiteral}
 use Rattle.pddl_reader.specs.Values.PlainTerm.{Variable, Constant}
 use Rattle.pddl_reader.specs.Places.{unplaced, unplaced_typed, unplaced_term, unplaced_literal}
-use Rattle.pddl_reader.specs.Classes.{is_name, is_variable, is_element, is_predicate, head_feature}
+use Rattle.pddl_reader.specs.Classes.{is_name, is_variable, is_element, takes_negation, is_predicate, head_feature}
 use Rattle.pddl_reader.specs.Typed.{IsNameWord, IsType, TypedGroup, IsTypedGroup, IsTypedList}
-use Rattle.pddl_reader.specs.Conditions.{IsTerm, AreTerms, IsAtom, IsLiteral, IsCondition, AreConditions, IsStartAtom}
+use Rattle.pddl_reader.specs.Conditions.{IsTerm, AreTerms, has_enough, IsAtom, IsLiteral, IsCondition, AreConditions, IsStartAtom}
 use Rattle.pddl_reader.specs.Sections.{Pairwise}
 use Rattle.pddl_print.specs.Layouts.{unplaced_form}
 use Rattle.pddl_print.specs.CanonicalForms.{word, name_form, type_form, typed_forms, term_form, atom_form, literal_form, condition_form}
@@ -163,9 +163,9 @@ pub literal_condition : (part : Part) (g : Form) (l : PlainLiteral) → IsLitera
 literal_condition part g l (inl (positive, is)) =
     subst (λ f. IsCondition part f (l ∷ [])) (sym is.whole)
     (inr (l, refl, subst (λ f. IsLiteral part f l) is.whole (inl (positive, is))))
-literal_condition part g l (inr (negative, effect, at, head, inner, whole, not_word, is)) =
+literal_condition part g l (inr (negative, takes, at, head, inner, whole, not_word, is)) =
     subst (λ f. IsCondition part f (l ∷ [])) (sym whole)
-    (inr (l, refl, inr (negative, effect, at, head, inner, refl, not_word, is)))
+    (inr (l, refl, inr (negative, takes, at, head, inner, refl, not_word, is)))
 
 literals_are : (part : Part) (gs : List Form) (ls : List PlainLiteral) → Pairwise (IsLiteral part) gs ls → AreConditions part (forms_of gs) ls
 literals_are part [] [] are = refl
@@ -174,6 +174,14 @@ literals_are part (g ∷ gs) [] are = absurd are
 literals_are part (g ∷ gs) (l ∷ ls) are = (l ∷ [], ls, refl, literal_condition part g l are.0, literals_are part gs ls are.1)
 
 module _ (P : List ℕ → Type 0) (part : Part) where
+  -- terms are enough for a predicate where their forms are
+  enough_again : (predicate : List ℕ) (terms : List PlainTerm) (gs : List Form) → map unplaced_form gs ≡ map term_form terms
+      → IsTrue (has_enough predicate terms) → IsTrue (has_enough predicate gs)
+  enough_again predicate [] [] e enough = enough
+  enough_again predicate [] (g ∷ gs) e enough = refl
+  enough_again predicate (t ∷ terms) [] e enough = absurd (cc)
+  enough_again predicate (t ∷ terms) (g ∷ gs) e enough = refl
+
   atom_again : (l : PlainLiteral) (g : Form) → SoundLiteral P part l → unplaced_form g ≡ atom_form l
       → (w : Word) × (terms : List PlainTerm) × IsAtom part g w terms × (w.text ≡ l.predicate.text) × (map unplaced_term terms ≡ map unplaced_term l.terms)
   atom_again l g sound e =
@@ -186,8 +194,9 @@ module _ (P : List ℕ → Type 0) (part : Part) where
           at = whole.0;
           forms = head.rest;
           whole = whole.2 ∙ ap (λ fs. group whole.0 fs) head.whole;
-          name = subst (λ t. IsTrue (is_predicate t)) (sym head.same) sound.name;
+          name = subst (λ t. IsTrue (is_predicate part t)) (sym head.same) sound.name;
           plain = ap (head_feature part) head.same ∙ sound.plain;
+          enough = subst (λ t. IsTrue (has_enough t head.rest)) (sym head.same) (enough_again l.predicate.text l.terms head.rest head.behind sound.enough);
           are_terms = terms_are part head.rest terms.0 terms.1;
         },
         head.same,
@@ -206,9 +215,9 @@ module _ (P : List ℕ → Type 0) (part : Part) where
         λ j. record { positive = sym positive j; predicate = record { text = atom.3 j; at = 0 }; terms = atom.4 j },
       )
 
-  negative_again : (l : PlainLiteral) (g : Form) → SoundLiteral P part l → l.positive ≡ false → part ≡ Effect
+  negative_again : (l : PlainLiteral) (g : Form) → SoundLiteral P part l → l.positive ≡ false → IsTrue (takes_negation part)
       → unplaced_form g ≡ group 0 (word (codes "not") ∷ atom_form l ∷ []) → LiteralAgain g l
-  negative_again l g sound negative effect e =
+  negative_again l g sound negative takes e =
       let whole = group_again g (word (codes "not") ∷ atom_form l ∷ []) e in
       let head = word_first whole.1 (codes "not") (atom_form l ∷ []) whole.3 in
       let inner = form_first head.rest (atom_form l) [] head.behind in
@@ -217,7 +226,7 @@ module _ (P : List ℕ → Type 0) (part : Part) where
         record { positive = false; predicate = atom.0; terms = atom.1 },
         inr (
           refl,
-          effect,
+          takes,
           whole.0,
           head.first,
           inner.first,
@@ -234,7 +243,7 @@ module _ (P : List ℕ → Type 0) (part : Part) where
       let negation : Form = group 0 (word (codes "not") ∷ atom_form l ∷ []) in
       elim sound.sign [
         | inl positive ↦ positive_again l g sound positive (e ∙ cond-true l.positive (atom_form l) negation positive)
-        | inr (negative, effect) ↦ negative_again l g sound negative effect (e ∙ cond-false l.positive (atom_form l) negation negative)
+        | inr (negative, takes) ↦ negative_again l g sound negative takes (e ∙ cond-false l.positive (atom_form l) negation negative)
       ]
 
   pub condition_again : (ls : List PlainLiteral) (g : Form) → All (SoundLiteral P part) ls → unplaced_form g ≡ condition_form ls
@@ -258,4 +267,4 @@ start_again P l g sound e =
   where
     starts : (m : PlainLiteral) → IsLiteral Start g m → IsStartAtom g m
     starts m (inl is) = is
-    starts m (inr negation) = let effect : Start ≡ Effect = negation.1 in absurd (cc)
+    starts m (inr negation) = absurd (false≢true negation.1)

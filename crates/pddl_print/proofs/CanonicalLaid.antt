@@ -3,14 +3,15 @@ use Rattle.std.proofs.Common.{◌≡◌, ℕ, ◌<◌, List, [], ◌∷◌, ◌+
 use Rattle.std.specs.List.{flat_map}
 use Rattle.std.proofs.lemmas.List.Elements.{All-nil}
 use Rattle.pddl_reader.specs.Forms.{Word, Form, group}
-use Rattle.pddl_reader.specs.Values.{PlainDomain, PlainProblem}
-use Rattle.pddl_print.specs.Canonical.{spaced, name_text, typed_text, literal_text, predicate_text, action_text, section_text, domain_text, problem_text}
+use Rattle.pddl_reader.specs.Values.{PlainSchema, PlainDomain, PlainProblem}
+use Rattle.pddl_print.specs.Canonical.{spaced, name_text, typed_text, literal_text, predicate_text, action_text, section_text, requirements, domain_text, problem_text}
 use Rattle.pddl_reader.specs.Words.{AllLiteral, AllDomain, AllProblem}
-use Rattle.pddl_print.specs.CanonicalForms.{word, name_form, typed_forms, literal_form, condition_form, predicate_form, action_form, section_forms, domain_form, problem_form}
+use Rattle.pddl_print.specs.CanonicalForms.{word, name_form, typed_forms, literal_form, condition_form, predicate_form, action_form, section_forms, requirements_form, domain_form, problem_form}
 use Rattle.pddl_print.specs.CanonicalParts.{written, typed_parts, literal_parts, predicate_parts, named_parts, sections_parts, requirements_parts, domain_parts, init_parts, goal_parts, problem_parts}
 use Rattle.pddl_print.specs.Layouts.{Parts, Last, parts_bytes, parts_forms, parts_depth, IsWritable, AreLaid}
 use Rattle.pddl_print.proofs.CanonicalPuts.{NoWordFirst, Puts, keyword, puts_word, puts_blank, puts_brackets, puts_bracket_line, puts_both, puts_within, spaced_apart}
-use Rattle.pddl_print.proofs.CanonicalValues.{IsWritableWord, puts_name, puts_literals, puts_condition, nine_right, puts_actions, actions_apart, section_apart, puts_typed_section, puts_predicates}
+use Rattle.pddl_print.proofs.Required.{all_requirements}
+use Rattle.pddl_print.proofs.CanonicalValues.{IsWritableWord, puts_name, puts_literals, puts_condition, nine_right, puts_actions, actions_apart, section_apart, puts_words, puts_typed_section, puts_predicates}
 
 -- the parts, in brackets at the end of a line, are laid out, and have this text and this form
 pub record IsCanonical (parts : Parts) (text : List ℕ) (f : Form) : Type 0 where
@@ -37,16 +38,11 @@ named : (key : List ℕ) → IsWritable key → (w : Word) → IsWritableWord w
 named key is w name =
     puts_within 4 (omega arith) (puts_bracket_line (puts_both (puts_word key is) (puts_blank 32 refl (puts_name w name)) (λ behind begins. tt)))
 
-requirements : Puts requirements_parts (codes "(:requirements :strips :typing)\n") (group 0 (word (codes ":requirements") ∷ word (codes ":strips") ∷ word (codes ":typing") ∷ []) ∷ []) 4
-requirements =
-    puts_within 4 (omega arith)
-    (puts_bracket_line
-    (puts_both (puts_word (codes ":requirements") (keyword (codes ":requirements") (omega arith) refl refl))
-    (puts_blank 32 refl
-    (puts_both (puts_word (codes ":strips") (keyword (codes ":strips") (omega arith) refl refl))
-    (puts_blank 32 refl (puts_word (codes ":typing") (keyword (codes ":typing") (omega arith) refl refl)))
-    (λ behind begins. tt)))
-    (λ behind begins. tt)))
+required : (actions : List PlainSchema) → Puts (requirements_parts actions) (section_text (codes ":requirements") (requirements actions)) (requirements_form actions ∷ []) 4
+required actions =
+    puts_words (codes ":requirements") (keyword (codes ":requirements") (omega arith) refl refl) (requirements actions)
+    (all_requirements IsWritable (keyword (codes ":strips") (omega arith) refl refl) (keyword (codes ":typing") (omega arith) refl refl)
+    (keyword (codes ":negative-preconditions") (omega arith) refl refl) (keyword (codes ":equality") (omega arith) refl refl) actions)
 
 sections : (d : PlainDomain) → AllDomain IsWritable d
     → Puts (sections_parts d)
@@ -68,15 +64,12 @@ domain_left : (define s1 key s2 name s3 required types constants predicates acti
     ≡ define ++ (s1 ++ (key ++ (s2 ++ (name ++ (s3 ++ (required ++ (types ++ (constants ++ (predicates ++ (actions ++ s4))))))))))
 domain_left define s1 key s2 name s3 required types constants predicates actions s4 = simp append_assoc
 
-eight_right : (a b c d e f g h : List ℕ) → a ++ b ++ c ++ d ++ e ++ f ++ g ++ h ≡ a ++ (b ++ (c ++ (d ++ (e ++ (f ++ (g ++ h))))))
-eight_right a b c d e f g h = simp append_assoc
-
-domain_bytes : (name types constants predicates actions : List ℕ)
-    → 40 ∷ ((codes "define" ++ 32 ∷ 40 ∷ (codes "domain" ++ 32 ∷ name ++ 41 ∷ 10 ∷ []) ++ codes "(:requirements :strips :typing)\n" ++ (types ++ constants ++ predicates ++ actions)) ++ 41 ∷ 10 ∷ [])
-    ≡ codes "(define (domain " ++ name ++ codes ")\n(:requirements :strips :typing)\n" ++ types ++ constants ++ predicates ++ actions ++ codes ")\n"
-domain_bytes name types constants predicates actions =
-    ap (λ bytes. 40 ∷ bytes) (domain_left (codes "define") (32 ∷ 40 ∷ []) (codes "domain") (32 ∷ []) name (41 ∷ 10 ∷ []) (codes "(:requirements :strips :typing)\n") types constants predicates actions (41 ∷ 10 ∷ []))
-    ∙ sym (eight_right (codes "(define (domain ") name (codes ")\n(:requirements :strips :typing)\n") types constants predicates actions (codes ")\n"))
+domain_bytes : (name required types constants predicates actions : List ℕ)
+    → 40 ∷ ((codes "define" ++ 32 ∷ 40 ∷ (codes "domain" ++ 32 ∷ name ++ 41 ∷ 10 ∷ []) ++ required ++ (types ++ constants ++ predicates ++ actions)) ++ 41 ∷ 10 ∷ [])
+    ≡ codes "(define (domain " ++ name ++ codes ")\n" ++ required ++ types ++ constants ++ predicates ++ actions ++ codes ")\n"
+domain_bytes name required types constants predicates actions =
+    ap (λ bytes. 40 ∷ bytes) (domain_left (codes "define") (32 ∷ 40 ∷ []) (codes "domain") (32 ∷ []) name (41 ∷ 10 ∷ []) required types constants predicates actions (41 ∷ 10 ∷ []))
+    ∙ sym (nine_right (codes "(define (domain ") name (codes ")\n") required types constants predicates actions (codes ")\n"))
 
 sections_apart : (d : PlainDomain) (behind : Parts) → NoWordFirst behind → NoWordFirst (sections_parts d behind)
 sections_apart d behind begins =
@@ -91,9 +84,9 @@ domain_laid d h =
     (puts_both
     (puts_both (fixed (codes "define") (keyword (codes "define") (omega arith) refl refl))
     (puts_blank 32 refl (named (codes "domain") (keyword (codes "domain") (omega arith) refl refl) d.name h.name)) (λ behind begins. tt))
-    requirements (λ behind begins. tt))
+    (required d.actions) (λ behind begins. tt))
     (sections d h) (sections_apart d))
-    (domain_bytes (name_text d.name) (section_text (codes ":types") (map typed_text d.types)) (section_text (codes ":constants") (map typed_text d.constants))
+    (domain_bytes (name_text d.name) (section_text (codes ":requirements") (requirements d.actions)) (section_text (codes ":types") (map typed_text d.types)) (section_text (codes ":constants") (map typed_text d.constants))
     (section_text (codes ":predicates") (map predicate_text d.predicates)) (flat_map action_text d.actions))
 
 start : (p : PlainProblem) → AllProblem IsWritable p

@@ -2,6 +2,7 @@
 use Rattle.std.proofs.Common.{◌≡◌, ℕ, true, false, List, [], ◌∷◌, ◌++◌, map, refl, sym, ap, ◌∙◌, arith, append_assoc, codes}
 use Rattle.std.specs.Prelude.{All, if◌then◌else◌}
 use Rattle.std.specs.List.{flat_map}
+use Rattle.std.proofs.lemmas.List.{map-id}
 use Rattle.std.proofs.lemmas.List.Concat.{flat_map_single}
 use Rattle.std.proofs.lemmas.List.Elements.{All-head}
 use Rattle.pddl_reader.specs.Forms.{Word, group}
@@ -139,6 +140,15 @@ actions_apart (a ∷ actions) behind begins = tt
 pub section_apart : {X : Type 0} (key : List ℕ) (put : X → Parts → Parts) (items : List X) → BeginsApart (section_parts key put items)
 section_apart key put [] behind begins = begins
 section_apart key put (item ∷ items) behind begins = tt
+
+pub puts_words : (key : List ℕ) → IsWritable key → (texts : List (List ℕ)) → All IsWritable texts
+    → Puts (section_parts key written texts) (section_text key texts) (section_forms key (map word texts)) 4
+puts_words key is [] all = puts_nothing 4
+puts_words key is (t ∷ texts) all =
+    puts_within 4 (omega arith)
+    (puts_forms (section_forms key (map word (t ∷ texts))) (ap (λ fs. group 0 (word key ∷ fs) ∷ []) (flat_map_single word (t ∷ texts)))
+    (puts_text (section_text key (t ∷ texts)) (ap (section_text key) (map-id (t ∷ texts)))
+    (puts_line written (λ text. text) (λ text. word text ∷ []) 0 IsWritable puts_word key is t texts all)))
 
 pub puts_typed_section : (key : List ℕ) → IsWritable key → (names : List PlainTypedName) → All (AllTyped IsWritable) names
     → Puts (section_parts key typed_parts names) (section_text key (map typed_text names)) (section_forms key (flat_map typed_forms names)) 4

@@ -1,6 +1,7 @@
 pub mod Writing
 pub mod CanonicalPuts
 pub mod CanonicalValues
+pub mod Required
 pub mod CanonicalLaid
 pub mod OneDomain
 pub mod Combined

@@ -1,6 +1,6 @@
 -- Bytes that are written one part behind the other.
-use Rattle.std.proofs.Common.{◌≡◌, ℕ, false, cond, List, [], ◌∷◌, ◌++◌, map, length, Result, Ok, Err, ap, ◌∙◌, append_assoc, codes, refl}
-use Rattle.std.specs.Prelude.{◌==◌, OnOk, is_ok}
+use Rattle.std.proofs.Common.{◌≡◌, ℕ, Bool, true, false, cond, List, [], ◌∷◌, ◌++◌, map, length, Result, Ok, Err, ap, ◌∙◌, append_assoc, codes, refl}
+use Rattle.std.specs.Prelude.{◌==◌, OnOk, is_ok, if◌then◌else◌}
 use Rattle.pddl_print.specs.Canonical.{spaced, section_text}
 
 -- one part more
@@ -38,3 +38,13 @@ pub section_line : {X : Type 0} (text : X → List ℕ) (keyword : List ℕ) (it
     → section_text keyword (map text items) ≡ codes "(" ++ keyword ++ spaced (map text items) ++ codes ")\n"
 section_line text keyword [] some = absurd (cc)
 section_line text keyword (item ∷ items) some = refl
+
+-- the line of the requirements
+pub requirements_line : (negated equal : Bool)
+    → codes "(:requirements :strips :typing" ++ (if negated then codes " :negative-preconditions" else []) ++ (if equal then codes " :equality" else []) ++ codes ")\n"
+    ≡ section_text (codes ":requirements") (codes ":strips" ∷ codes ":typing"
+    ∷ ((if negated then codes ":negative-preconditions" ∷ [] else []) ++ (if equal then codes ":equality" ∷ [] else [])))
+requirements_line true true = refl
+requirements_line true false = refl
+requirements_line false true = refl
+requirements_line false false = refl

@@ -1,9 +1,10 @@
 -- The canonical text of a domain and of a problem: one spelling for each value, line by line.
-use Rattle.std.specs.Prelude.{ℕ, List, [], ◌∷◌, ◌++◌, map, codes, if◌then◌else◌}
-use Rattle.std.specs.List.{flat_map}
+use Rattle.std.specs.Prelude.{ℕ, Bool, not, ◌&&◌, List, [], ◌∷◌, ◌++◌, map, codes, if◌then◌else◌}
+use Rattle.std.specs.List.{flat_map, list_any}
 use Rattle.pddl_reader.specs.Forms.{Word}
 use Rattle.pddl_reader.specs.Values.{PlainTypedName, PlainTerm, PlainLiteral, PlainSchema, PlainPredicate, PlainDomain, PlainProblem}
 use Rattle.pddl_reader.specs.Values.PlainTerm.{Variable, Constant}
+use Rattle.pddl_reader.specs.Classes.{is_equality}
 
 -- each item behind a space
 abbrev pub spaced : List (List ℕ) → List ℕ
@@ -56,9 +57,28 @@ abbrev pub section_text : List ℕ → List (List ℕ) → List ℕ
 section_text keyword [] = []
 section_text keyword (item ∷ items) = codes "(" ++ keyword ++ spaced (item ∷ items) ++ codes ")\n"
 
+-- whether the literal is an equality or a negated one, and whether it is a negated atom
+abbrev pub is_of_equality : PlainLiteral → Bool
+is_of_equality l = is_equality l.predicate.text
+
+abbrev pub is_negated_atom : PlainLiteral → Bool
+is_negated_atom l = not l.positive && not (is_of_equality l)
+
+-- whether a precondition of an action has such a literal
+abbrev pub has_precondition : (PlainLiteral → Bool) → List PlainSchema → Bool
+has_precondition test actions = list_any (λ (a : PlainSchema). list_any test a.pre) actions
+
+-- the requirements of a domain with these actions; negative preconditions and equality where they are used
+abbrev pub requirements : List PlainSchema → List (List ℕ)
+requirements actions =
+    codes ":strips" ∷ codes ":typing"
+    ∷ ((if has_precondition is_negated_atom actions then codes ":negative-preconditions" ∷ [] else [])
+    ++ (if has_precondition is_of_equality actions then codes ":equality" ∷ [] else []))
+
 abbrev pub domain_text : PlainDomain → List ℕ
 domain_text d =
-    codes "(define (domain " ++ name_text d.name ++ codes ")\n(:requirements :strips :typing)\n"
+    codes "(define (domain " ++ name_text d.name ++ codes ")\n"
+    ++ section_text (codes ":requirements") (requirements d.actions)
     ++ section_text (codes ":types") (map typed_text d.types)
     ++ section_text (codes ":constants") (map typed_text d.constants)
     ++ section_text (codes ":predicates") (map predicate_text d.predicates)

@@ -4,6 +4,7 @@ use Rattle.std.specs.List.{flat_map}
 use Rattle.pddl_reader.specs.Forms.{Word, Form, Leaf, group}
 use Rattle.pddl_reader.specs.Values.{PlainTypedName, PlainTerm, PlainLiteral, PlainSchema, PlainPredicate, PlainDomain, PlainProblem}
 use Rattle.pddl_reader.specs.Values.PlainTerm.{Variable, Constant}
+use Rattle.pddl_print.specs.Canonical.{requirements}
 
 abbrev pub word : List ℕ → Form
 word text = Leaf (record { text = text; at = 0 })
@@ -45,9 +46,12 @@ abbrev pub section_forms : List ℕ → List Form → List Form
 section_forms keyword [] = []
 section_forms keyword (f ∷ forms) = group 0 (word keyword ∷ f ∷ forms) ∷ []
 
+abbrev pub requirements_form : List PlainSchema → Form
+requirements_form actions = group 0 (word (codes ":requirements") ∷ map word (requirements actions))
+
 abbrev pub domain_form : PlainDomain → Form
 domain_form d = group 0 (word (codes "define") ∷ group 0 (word (codes "domain") ∷ name_form d.name ∷ [])
-    ∷ group 0 (word (codes ":requirements") ∷ word (codes ":strips") ∷ word (codes ":typing") ∷ [])
+    ∷ requirements_form d.actions
     ∷ (section_forms (codes ":types") (flat_map typed_forms d.types)
     ++ section_forms (codes ":constants") (flat_map typed_forms d.constants)
     ++ section_forms (codes ":predicates") (map predicate_form d.predicates)

@@ -4,6 +4,7 @@ use Rattle.std.specs.Prelude.{ℕ, List, [], ◌∷◌, codes, if◌then◌else�
 use Rattle.pddl_reader.specs.Forms.{Word}
 use Rattle.pddl_reader.specs.Values.{PlainTypedName, PlainTerm, PlainLiteral, PlainSchema, PlainPredicate, PlainDomain, PlainProblem}
 use Rattle.pddl_reader.specs.Values.PlainTerm.{Variable, Constant}
+use Rattle.pddl_print.specs.Canonical.{requirements}
 use Rattle.pddl_print.specs.Layouts.{Parts, Blank, Written, Bracketed, Last, Before}
 
 abbrev pub written : List ℕ → Parts → Parts
@@ -89,14 +90,13 @@ sections_parts d behind =
     (section_parts (codes ":predicates") predicate_parts d.predicates
     (each_parts action_parts d.actions behind)))
 
-abbrev pub requirements_parts : Parts → Parts
-requirements_parts behind =
-    bracketed (written (codes ":requirements") (space (written (codes ":strips") (space (written (codes ":typing") Last))))) (line_end behind)
+abbrev pub requirements_parts : List PlainSchema → Parts → Parts
+requirements_parts actions behind = section_parts (codes ":requirements") written (requirements actions) behind
 
 -- what stands in the brackets of a domain
 abbrev pub domain_parts : PlainDomain → Parts
 domain_parts d =
-    written (codes "define") (space (named_parts (codes "domain") d.name (requirements_parts (sections_parts d Last))))
+    written (codes "define") (space (named_parts (codes "domain") d.name (requirements_parts d.actions (sections_parts d Last))))
 
 abbrev pub init_parts : PlainProblem → Parts → Parts
 init_parts p behind = bracketed (written (codes ":init") (spaced_parts literal_parts p.init Last)) (line_end behind)

@@ -1,7 +1,7 @@
 -- Parts of the canonical text, which functions of their own write.
 use Rattle.std.specs.Prelude.{ℕ, List, ◌++◌, map, codes}
 use Rattle.pddl_reader.specs.Values.{PlainSchema, PlainDomain, PlainProblem}
-use Rattle.pddl_print.specs.Canonical.{spaced, separated, name_text, typed_text, literal_text, condition_text, section_text}
+use Rattle.pddl_print.specs.Canonical.{spaced, separated, name_text, typed_text, literal_text, condition_text, section_text, requirements}
 
 -- the lines of an action up to its parameters
 abbrev pub action_front : PlainSchema → List ℕ
@@ -14,7 +14,8 @@ action_rest a = (codes ")\n:precondition " ++ condition_text a.pre) ++ (codes "\
 -- a domain up to its constants
 abbrev pub domain_front : PlainDomain → List ℕ
 domain_front d =
-    (codes "(define (domain " ++ name_text d.name ++ codes ")\n(:requirements :strips :typing)\n")
+    (codes "(define (domain " ++ name_text d.name ++ codes ")\n")
+    ++ section_text (codes ":requirements") (requirements d.actions)
     ++ section_text (codes ":types") (map typed_text d.types)
     ++ section_text (codes ":constants") (map typed_text d.constants)
 

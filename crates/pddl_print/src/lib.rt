@@ -8,6 +8,7 @@
 //! |---|---|
 //! | `print.rt` | the two calls |
 //! | `sections.rt` | writes the lines of a domain and of a problem |
+//! | `requirements.rt` | writes the line of the requirements |
 //! | `literals.rt` | writes conditions and atoms |
 //! | `typed.rt` | writes names with their types |
 //!
@@ -17,6 +18,7 @@
 
 mod literals;
 mod print;
+mod requirements;
 mod sections;
 mod typed;
 

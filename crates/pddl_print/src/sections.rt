@@ -4,6 +4,7 @@ ghost use Rattle.pddl_print.specs.Canonical.{action_text, condition_text, domain
 ghost use Rattle.pddl_print.specs.Fronts.{action_front, action_rest, domain_front, problem_front, problem_rest};
 
 use crate::literals::{put_condition, put_spaced_literals};
+use crate::requirements::put_requirements;
 use crate::typed::{put_name, put_separated_typed, put_spaced_typed};
 use pddl_reader::{Domain, Literal, Name, Predicate, Problem, Schema, TypedName};
 use std::alloc::AllocError;
@@ -122,12 +123,8 @@ fn put_actions(out: &mut Vec<u8>, actions: &[Schema]) -> Result<(), AllocError>
 fn put_domain_front(out: &mut Vec<u8>, domain: &Domain) -> Result<(), AllocError>
     ensures { OnOk result (out.new.items ≡ out.old.items ++ domain_front domain.now) }
 {
-    put_between(
-        out,
-        b"(define (domain ",
-        &domain.name,
-        b")\n(:requirements :strips :typing)\n",
-    )?;
+    put_between(out, b"(define (domain ", &domain.name, b")\n")?;
+    put_requirements(out, &domain.actions)?;
     put_typed_section(out, ":types", &domain.types)?;
     put_typed_section(out, ":constants", &domain.constants)
 }
