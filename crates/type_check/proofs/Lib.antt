@@ -11,6 +11,7 @@ mod FirstFaults
 pub mod NameLists
 mod TermLaws
 mod LiteralLaws
+mod Equalities
 mod ParentLaws
 mod TypeLaws
 mod MarkLaws

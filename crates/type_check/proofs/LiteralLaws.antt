@@ -12,7 +12,7 @@ use Rattle.type_check.specs.declared.typed.TypedTerm.{TypedTerm}
 use Rattle.type_check.specs.declared.typed.TypedTerm.TheVariants.{Parameter, Object}
 use Rattle.type_check.specs.Types.{names_of, place_in}
 use Rattle.type_check.specs.Checks.{Check, OneOf, SameCount, Passes, fault_at}
-use Rattle.type_check.specs.Rules.{predicate_names, find_predicate, find_name, fit_checks, term_checks, terms_checks, fitting_checks, literal_checks}
+use Rattle.type_check.specs.Rules.{predicate_names, find_predicate, known_predicates, find_name, fit_checks, term_checks, terms_checks, fitting_checks, literal_checks}
 use Rattle.type_check.specs.Typing.{typed_term, term_name}
 use Rattle.type_check.specs.Tables.{HasFault}
 use Rattle.type_check.proofs.FirstFaults.{fault_here, fault_second, fault_third, passed_third}
@@ -20,16 +20,16 @@ use Rattle.type_check.proofs.NameLists.{contains_none}
 
 module _ (d : PlainDomain) (file : FileRole) (parameters objects : List PlainTypedName) (l : PlainLiteral) where
   abbrev is_declared : Check
-  is_declared = record { need = OneOf (predicate_names d.predicates) l.predicate.text; fault = fault_at UnknownPredicate file l.predicate.at }
+  is_declared = record { need = OneOf (predicate_names (known_predicates d)) l.predicate.text; fault = fault_at UnknownPredicate file l.predicate.at }
 
   abbrev has_count : PlainPredicate → Check
   has_count q = record { need = SameCount (length l.terms) (length q.parameters); fault = fault_at WrongCount file l.predicate.at }
 
-  pub predicate_missing : (Contains (predicate_names d.predicates) l.predicate.text → ⊥)
+  pub predicate_missing : (Contains (predicate_names (known_predicates d)) l.predicate.text → ⊥)
       → HasFault d (literal_checks file d parameters objects l) (Typing (fault_at UnknownPredicate file l.predicate.at))
-  predicate_missing none = fault_here d is_declared (fitting_checks file parameters objects l (find_predicate d.predicates l.predicate.text)) none
+  predicate_missing none = fault_here d is_declared (fitting_checks file parameters objects l (find_predicate (known_predicates d) l.predicate.text)) none
 
-  module _ (q : PlainPredicate) (has : Contains (predicate_names d.predicates) l.predicate.text) (found : find_predicate d.predicates l.predicate.text ≡ Some q) where
+  module _ (q : PlainPredicate) (has : Contains (predicate_names (known_predicates d)) l.predicate.text) (found : find_predicate (known_predicates d) l.predicate.text ≡ Some q) where
     pub count_differs : (length l.terms ≡ length q.parameters → ⊥)
         → HasFault d (literal_checks file d parameters objects l) (Typing (fault_at WrongCount file l.predicate.at))
     count_differs differs =

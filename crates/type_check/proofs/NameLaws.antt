@@ -223,6 +223,13 @@ differ_from_not x y differ same =
     let equal : bytes_eq x y ≡ true = ap (λ z. bytes_eq z y) same ∙ eq-refl y in
     true≢false (differ ∙ ap not equal)
 
+pub same_from_not : (x y : List ℕ) → false ≡ not (bytes_eq x y) → x ≡ y
+same_from_not x y = by (bytes_eq x y) refl
+  where
+    by : (b : Bool) → bytes_eq x y ≡ b → false ≡ not b → x ≡ y
+    by true e h = eq-same x y e
+    by false e h = absurd (false≢true h)
+
 -- a name that was not new, and one that was
 pub was_there : (old names new : List (List ℕ)) (t u : List ℕ) (b : Bool) → old ≡ names → t ≡ u → AddsTo old new t b → b ≡ false → Contains names u
 was_there old names new t u true is same h e = absurd (true≢false e)

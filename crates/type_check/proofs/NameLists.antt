@@ -1,11 +1,12 @@
 -- Lists of names that grow, and the first places of names in them.
-use Rattle.std.proofs.Common.{◌≡◌, ℕ, zero, suc, ◌+◌, ◌<◌, Bool, true, false, cond, List, [], ◌∷◌, ◌++◌, Some, length, map, get_or, take, slice_get, refl, sym, ap, ◌∙◌, arith}
+use Rattle.std.proofs.Common.{◌≡◌, ◌⊎◌, inl, inr, ℕ, zero, suc, ◌+◌, ◌<◌, Bool, true, false, cond, List, [], ◌∷◌, ◌++◌, Some, length, map, get_or, take, slice_get, refl, sym, ap, ◌∙◌, subst, arith}
 use mathlib.Core.Path.{ap₂}
 use Rattle.std.specs.Prelude.{Contains}
 use Rattle.std.specs.Str.{bytes_eq}
 use Rattle.std.proofs.lemmas.Bool.{false≢true}
 use Rattle.std.proofs.lemmas.Slice.Eq.{bytes_eq-Decides}
-use Rattle.std.proofs.lemmas.List.{append_assoc, map_more}
+use Rattle.std.proofs.lemmas.List.{append_assoc, map_more, map_push}
+use Rattle.std.proofs.lemmas.List.Elements.{Contains-append_left, Contains-append_right, Contains-append_cases}
 use Rattle.pddl_reader.specs.Values.{PlainTypedName, PlainPredicate}
 use Rattle.type_check.specs.Types.{names_of, place_in}
 use Rattle.type_check.specs.Rules.{predicate_names, find_predicate, find_name}
@@ -67,3 +68,47 @@ predicate_found (q ∷ list) name has = by (bytes_eq q.name.text name) refl (pre
         → cond b (Some q) (find_predicate list name) ≡ slice_get (q ∷ list) (cond b 0 (suc (place_in (predicate_names list) name)))
     by true same rest = refl
     by false differ rest = rest (contains_rest q.name.text name (predicate_names list) differ has)
+
+-- ---- a predicate behind a list
+
+-- it is found where none of the list has the name
+pub found_before : (list : List PlainPredicate) (q : PlainPredicate) (name : List ℕ) → Contains (predicate_names list) name → find_predicate (list ++ q ∷ []) name ≡ find_predicate list name
+found_before [] q name has = absurd (contains_none name has)
+found_before (p ∷ list) q name has = by (bytes_eq p.name.text name) refl (found_before list q name)
+  where
+    by : (b : Bool) → bytes_eq p.name.text name ≡ b
+        → (Contains (predicate_names list) name → find_predicate (list ++ q ∷ []) name ≡ find_predicate list name)
+        → cond b (Some p) (find_predicate (list ++ q ∷ []) name) ≡ cond b (Some p) (find_predicate list name)
+    by true same rest = refl
+    by false differ rest = rest (contains_rest p.name.text name (predicate_names list) differ has)
+
+pub found_behind : (list : List PlainPredicate) (q : PlainPredicate) (name : List ℕ) → (Contains (predicate_names list) name → ⊥) → q.name.text ≡ name → find_predicate (list ++ q ∷ []) name ≡ Some q
+found_behind [] q name none same = ap (λ b. cond b (Some q) (find_predicate [] name)) ((bytes_eq-Decides q.name.text name).1 same)
+found_behind (p ∷ list) q name none same = by (bytes_eq p.name.text name) refl (found_behind list q name)
+  where
+    by : (b : Bool) → bytes_eq p.name.text name ≡ b
+        → ((Contains (predicate_names list) name → ⊥) → q.name.text ≡ name → find_predicate (list ++ q ∷ []) name ≡ Some q)
+        → cond b (Some p) (find_predicate (list ++ q ∷ []) name) ≡ Some q
+    by true here rest = absurd (none (0, omega arith, (bytes_eq-Decides p.name.text name).0 here))
+    by false differ rest = rest (λ has. none (Contains-append_right (p.name.text ∷ []) (predicate_names list) name has)) same
+
+module _ (list : List PlainPredicate) (q : PlainPredicate) (name : List ℕ) where
+  abbrev names : List (List ℕ)
+  names = predicate_names list
+
+  names_push : predicate_names (list ++ q ∷ []) ≡ names ++ q.name.text ∷ []
+  names_push = map_push (λ (p : PlainPredicate). p.name.text) list q
+
+  pub known_before : Contains names name → Contains (predicate_names (list ++ q ∷ [])) name
+  known_before has = subst (λ all. Contains all name) (sym names_push) (Contains-append_left names (q.name.text ∷ []) name has)
+
+  pub known_behind : q.name.text ≡ name → Contains (predicate_names (list ++ q ∷ [])) name
+  known_behind same = subst (λ all. Contains all name) (sym names_push) (Contains-append_right names (q.name.text ∷ []) name (0, omega arith, same))
+
+  pub unknown_behind : (Contains names name → ⊥) → (q.name.text ≡ name → ⊥) → Contains (predicate_names (list ++ q ∷ [])) name → ⊥
+  unknown_behind none differs has = by (Contains-append_cases names (q.name.text ∷ []) name (subst (λ all. Contains all name) names_push has))
+    where
+      by : Contains names name ⊎ Contains (q.name.text ∷ []) name → ⊥
+      by (inl before) = none before
+      by (inr (zero, within, same)) = differs same
+      by (inr (suc k, within, same)) = omega arith

@@ -1,6 +1,6 @@
 -- The names of a typed domain and problem are those of its files: each is a name in lower case, and no
 -- longer than a file may be.
-use Rattle.std.proofs.Common.{◌≡◌, ℕ, ◌-◌, ◌≤◌, ◌^◌, List, [], ◌∷◌, ◌++◌, length, map, take, drop, refl, sym, ap, ◌∙◌, subst, arith, codes, length-drop}
+use Rattle.std.proofs.Common.{◌≡◌, ℕ, ◌-◌, ◌≤◌, ◌^◌, List, [], ◌∷◌, length, map, take, drop, refl, sym, subst, arith, codes, length-drop}
 use mathlib.Core.Path.{ap₂}
 use Rattle.std.specs.Prelude.{IsTrue}
 use Rattle.std.specs.List.{All}
@@ -19,14 +19,13 @@ use Rattle.pddl_reader.specs.Classes.{is_name}
 use Rattle.pddl_reader.specs.Forms.{Form, group, forms_of, word_of, form_of_item, form_of_list, form_at, form_of}
 use Rattle.pddl_reader.specs.Items.{forms_at}
 use Rattle.pddl_reader.specs.Spelling.{IsFormOf}
-use Rattle.pddl_reader.specs.Values.{PlainTypedName, PlainSchema, PlainPredicate, PlainDomain, PlainProblem}
+use Rattle.pddl_reader.specs.Values.{PlainTypedName, PlainDomain, PlainProblem}
 use Rattle.pddl_reader.specs.Words.{AllWords, AllWordsOf}
 use Rattle.pddl_reader.proofs.NamesOfValues.{SoundTyped, SoundSchema, SoundPredicate, SoundDomain, SoundProblem}
 use Rattle.pddl_reader.proofs.NamesOf.{domain_sound, problem_sound}
 use Rattle.type_check.specs.Rules.{all_objects}
 use Rattle.type_check.specs.Values.{PlainTypedObject, PlainTypedPredicate, PlainTypedSchema, PlainTyped}
 use Rattle.type_check.specs.Typing.{typed_object, IsShortDomain, IsShortProblem, IsTypedPredicate, IsTypedSchema, IsTypedTask}
-use Rattle.type_check.specs.Numbered.{predicate_texts, schema_texts, object_texts}
 use Rattle.type_check.proofs.Pairs.{pairs_give}
 
 -- in lower case, and no longer than a file may be

@@ -20,6 +20,7 @@ pub use Rattle.type_check.specs.Checks.{Need, Meets, Check, Passes, fault_at, Is
 pub use Rattle.type_check.specs.Rules.{checks_behind, checks_of_each, is_new, are_types, few_parameters}
 pub use Rattle.type_check.specs.Rules.{type_checks, typed_checks, names_checks, predicate_names}
 pub use Rattle.type_check.specs.Rules.{predicate_checks, find_predicate, find_name, fit_checks, term_checks}
+pub use Rattle.type_check.specs.Rules.{any_object, equality, known_predicates}
 pub use Rattle.type_check.specs.Rules.{terms_checks, fitting_checks, literal_checks, literals_of}
 pub use Rattle.type_check.specs.Rules.{schema_names, few_literals, action_checks, domain_checks}
 pub use Rattle.type_check.specs.Rules.{all_objects, objects_in_files, count_checks, is_for_domain}

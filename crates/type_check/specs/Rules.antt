@@ -1,5 +1,5 @@
 -- The checks of a domain and a problem, in the order in which faults are found.
-use Rattle.std.specs.Prelude.{ℕ, List, [], ◌∷◌, ◌++◌, length, drop, map, All, Option, Some, None, if◌then◌else◌}
+use Rattle.std.specs.Prelude.{ℕ, List, [], ◌∷◌, ◌++◌, length, drop, map, codes, All, Option, Some, None, if◌then◌else◌}
 use Rattle.std.specs.List.{flat_map}
 use Rattle.std.specs.Str.{bytes_eq}
 use Rattle.grd_base.specs.declared.roles.FileRole.{FileRole}
@@ -9,7 +9,7 @@ use Rattle.pddl_reader.specs.Values.{PlainTypedName, PlainTerm, PlainLiteral, Pl
 use Rattle.pddl_reader.specs.Values.PlainTerm.{Variable, Constant}
 use Rattle.type_check.specs.declared.faults.TypeFault.{TypeFault}
 use Rattle.type_check.specs.declared.faults.TypeKind.TheVariants.{UnknownType, TypeCycle, Doubled, UnknownPredicate, WrongCount, WrongType, UnknownName, UnboundVariable, OtherDomain, TooManyObjects, TooManyParameters, TooManyLiterals}
-use Rattle.type_check.specs.Types.{texts, names_of, entries, type_names}
+use Rattle.type_check.specs.Types.{object_type, texts, names_of, entries, type_names}
 use Rattle.type_check.specs.Checks.{Check, NoneOf, OneOf, Acyclic, AtMost, SameCount, Fits, Passes, fault_at, IsFirstFault}
 
 -- the checks of each item, given those before it
@@ -83,6 +83,17 @@ terms_checks file parameters objects (t ∷ terms) (place ∷ places) =
     term_checks file parameters objects t place ++ terms_checks file parameters objects terms places
 terms_checks file parameters objects terms places = []
 
+-- the predicate of equalities: its name is `=`, which no declared predicate has, and its two parameters take any object.
+-- It is looked up behind the declared ones, for each literal: no text spells an equality but in a precondition
+abbrev pub any_object : PlainTypedName
+any_object = record { name = record { text = []; at = 0 }; types = record { text = object_type; at = 0 } ∷ [] }
+
+unfoldable pub equality : PlainPredicate
+equality = record { name = record { text = codes "="; at = 0 }; parameters = any_object ∷ any_object ∷ [] }
+
+abbrev pub known_predicates : PlainDomain → List PlainPredicate
+known_predicates d = d.predicates ++ equality ∷ []
+
 -- the literal has as many terms as its predicate has parameters, and each fits
 abbrev pub fitting_checks : FileRole → List PlainTypedName → List PlainTypedName → PlainLiteral → Option PlainPredicate → List Check
 fitting_checks file parameters objects l None = []
@@ -92,8 +103,8 @@ fitting_checks file parameters objects l (Some q) =
 
 abbrev pub literal_checks : FileRole → PlainDomain → List PlainTypedName → List PlainTypedName → PlainLiteral → List Check
 literal_checks file d parameters objects l =
-    record { need = OneOf (predicate_names d.predicates) l.predicate.text; fault = fault_at UnknownPredicate file l.predicate.at }
-    ∷ fitting_checks file parameters objects l (find_predicate d.predicates l.predicate.text)
+    record { need = OneOf (predicate_names (known_predicates d)) l.predicate.text; fault = fault_at UnknownPredicate file l.predicate.at }
+    ∷ fitting_checks file parameters objects l (find_predicate (known_predicates d) l.predicate.text)
 
 -- the literals of a precondition and an effect; of the objects the constants alone are seen
 abbrev pub literals_of : PlainSchema → List PlainLiteral

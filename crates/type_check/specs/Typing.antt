@@ -45,6 +45,7 @@ abbrev pub typed_term : List (List ℕ) → List (List ℕ) → PlainTerm → Ty
 typed_term parameters objects (Variable w) = Parameter (place_in parameters w.text)
 typed_term parameters objects (Constant w) = Object (place_in objects w.text)
 
+-- a literal by the number of its predicate; an equality, which is no declared predicate, has the number behind theirs
 abbrev pub typed_literal : PlainDomain → List (List ℕ) → List (List ℕ) → PlainLiteral → PlainTypedLiteral
 typed_literal d parameters objects l = record {
   positive = l.positive;

@@ -15,7 +15,7 @@ pub enum TypeKind {
     Doubled,
     #[error("unknown predicate")]
     UnknownPredicate,
-    /// A literal has not as many terms as its predicate has parameters.
+    /// A literal has not as many terms as its predicate has parameters, or an equality not two.
     #[error("wrong count")]
     WrongCount,
     /// A type of the term is, and lies below, none of the parameter's types.

@@ -13,6 +13,7 @@
 //! | `chains.rt` | walks through chains of parents |
 //! | `declared.rt` | checks declared names and their types |
 //! | `predicates.rt`, `actions.rt`, `problem.rt` | check what these three declare |
+//! | `equality.rt` | the equality as a predicate behind the declared ones |
 //! | `literals.rt` | checks a literal and gives it its numbers in one pass |
 //! | `names.rt` | an index of names |
 //! | `files.rt` | a domain and a problem that are well typed |
@@ -29,6 +30,7 @@ mod actions;
 mod chains;
 mod declared;
 mod entries;
+mod equality;
 mod faults;
 mod files;
 mod literals;

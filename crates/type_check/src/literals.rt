@@ -2,7 +2,7 @@ ghost use Rattle.std.specs.Prelude.{◌≡◌, [], ◌∷◌, Some, length, map,
 ghost use Rattle.pddl_reader.specs.Terms.{plain_term};
 ghost use Rattle.type_check.specs.Types.{names_of, place_in};
 ghost use Rattle.type_check.specs.Checks.{Passes};
-ghost use Rattle.type_check.specs.Rules.{predicate_names, find_predicate};
+ghost use Rattle.type_check.specs.Rules.{predicate_names, find_predicate, known_predicates};
 ghost use Rattle.type_check.specs.Tables.{HasFault, HaveKnownTypes};
 ghost use Rattle.type_check.specs.Scopes.{named_checks, term_in, terms_in, literal_in, typed_in, typed_literal_in, object_in, atom_in};
 ghost use Rattle.type_check.specs.Parts.{literals_rules};
@@ -128,14 +128,14 @@ impl<'s, 'a> Scope<'s, 'a> {
     }
 
     /// The predicate of the literal, which has as many parameters as the literal has terms, and its
-    /// place, counted from 0.
-    fn predicate_of(&self, literal: &Literal) -> Result<(u32, &'a Predicate), CheckTypeFault>
-        ensures known { OnOk result
-            (Contains (predicate_names self.now.domain.predicates) literal.now.predicate.text) }
+    /// place, counted from 0. That of an equality stands behind the declared ones.
+    fn predicate_of(&self, literal: &Literal) -> Result<(u32, &Predicate), CheckTypeFault>
+        ensures known { OnOk result (Contains (predicate_names (known_predicates self.now.domain))
+            literal.now.predicate.text) }
         ensures place { IfOk result (λ f.
             f.0 ≡ place_in (predicate_names self.now.domain.predicates) literal.now.predicate.text) }
-        ensures found { IfOk result (λ f.
-            find_predicate self.now.domain.predicates literal.now.predicate.text ≡ Some f.1.now) }
+        ensures found { IfOk result (λ f. find_predicate (known_predicates self.now.domain)
+            literal.now.predicate.text ≡ Some f.1.now) }
         ensures count { IfOk result (λ f. length literal.now.terms ≡ length f.1.now.parameters) }
         ensures fault { IfErr result (HasFault self.now.domain (literal_in self.now literal.now)) }
     {

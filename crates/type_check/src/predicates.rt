@@ -1,12 +1,13 @@
-ghost use Rattle.std.specs.Prelude.{◌≡◌, ◌≤◌, ◌^◌, List, [], ◌∷◌, ◌++◌, Some, length, map, All, Contains, IfOk, IfErr, OnOk, IfSome, IfNone, OnSome};
+ghost use Rattle.std.specs.Prelude.{◌≡◌, ◌<◌, ◌≤◌, ◌^◌, List, [], ◌∷◌, ◌++◌, Some, length, map, All, Contains, IfOk, IfErr, OnOk, IfSome, IfNone, OnSome};
 ghost use Rattle.pddl_reader.specs.Values.{PlainPredicate, PlainDomain};
 ghost use Rattle.type_check.specs.Types.{place_in};
 ghost use Rattle.type_check.specs.Checks.{Passes, fault_at};
-ghost use Rattle.type_check.specs.Rules.{few_parameters, predicate_names, find_predicate};
+ghost use Rattle.type_check.specs.Rules.{few_parameters, predicate_names, find_predicate, equality};
 ghost use Rattle.type_check.specs.Tables.{HasFault};
 ghost use Rattle.type_check.specs.Parts.{predicate_rules, predicates_rules};
 
 use crate::declared::{Declared, add_new, fault};
+use crate::equality::{EQUALITY, equality_of_objects};
 use crate::faults::{CheckTypeFault, TypeKind};
 use crate::names::Names;
 use crate::types::Types;
@@ -48,24 +49,26 @@ fn add_predicate<'a>(
     Ok(())
 }
 
-/// The predicates of a domain, by their names.
+/// The predicates of a domain, by their names, and the equality behind them.
 #[derive(Drop)]
 pub(crate) struct Predicates<'a> {
     names: Names<'a>,
     predicates: &'a [Predicate],
+    equals: Predicate,
 }
 
 impl<'a> Model for Predicates<'a> {
-    ghost use Rattle.std.specs.Prelude.{◌≡◌, ◌≤◌, ◌^◌, List, length};
+    ghost use Rattle.std.specs.Prelude.{◌≡◌, ◌<◌, ◌^◌, List, length};
     ghost use Rattle.pddl_reader.specs.Values.{PlainPredicate};
-    ghost use Rattle.type_check.specs.Rules.{predicate_names};
+    ghost use Rattle.type_check.specs.Rules.{predicate_names, equality};
 
     ghost Value = { List PlainPredicate };
 
     ghost view = { λ s. s.predicates.now };
 
     ghost invariant = { λ s. (s.names ≡ predicate_names s.predicates.now)
-        × (length s.predicates.now ≤ 2 ^ 32) };
+        × (length s.predicates.now < 2 ^ 32)
+        × (s.equals ≡ equality) };
 }
 
 impl<'a> Predicates<'a> {
@@ -76,7 +79,7 @@ impl<'a> Predicates<'a> {
         types: &Types,
         predicates: &'a [Predicate],
     ) -> Result<Predicates<'a>, CheckTypeFault>
-        requires few { length predicates.now ≤ 2 ^ 32 }
+        requires few { length predicates.now < 2 ^ 32 }
         ensures predicates { IfOk result (λ s. s ≡ predicates.now) }
         ensures passed { OnOk result
             (All (Passes types.now) (predicates_rules types.now predicates.now)) }
@@ -87,11 +90,15 @@ impl<'a> Predicates<'a> {
         for predicate in predicates {
             add_predicate(alloc, types, &mut names, predicate)?;
         }
-        Ok(Predicates { names, predicates })
+        Ok(Predicates {
+            names,
+            predicates,
+            equals: equality_of_objects(alloc)?,
+        })
     }
 
-    /// The place of the predicate with the name, counted from 0, and the predicate.
-    pub(crate) fn find(&self, name: &str) -> Option<(u32, &'a Predicate)>
+    // The place of the declared predicate with the name, counted from 0, and the predicate.
+    fn declared(&self, name: &str) -> Option<(u32, &'a Predicate)>
         ensures place { IfSome result (λ f. f.0 ≡ place_in (predicate_names self.now) name.now) }
         ensures found { IfSome result (λ f. find_predicate self.now name.now ≡ Some f.1.now) }
         ensures known { OnSome result (Contains (predicate_names self.now) name.now) }
@@ -99,5 +106,25 @@ impl<'a> Predicates<'a> {
     {
         let place = self.names.place_of(name)?;
         Some((place, &self.predicates[place as usize]))
+    }
+
+    /// The place of the predicate with the name, counted from 0, and the predicate: a declared one, or
+    /// the equality, which stands behind them.
+    pub(crate) fn find(&self, name: &str) -> Option<(u32, &Predicate)>
+        ensures place { IfSome result (λ f. f.0 ≡ place_in (predicate_names self.now) name.now) }
+        ensures found { IfSome result
+            (λ f. find_predicate (self.now ++ equality ∷ []) name.now ≡ Some f.1.now) }
+        ensures known { OnSome result
+            (Contains (predicate_names (self.now ++ equality ∷ [])) name.now) }
+        ensures none { IfNone result
+            (Contains (predicate_names (self.now ++ equality ∷ [])) name.now → ⊥) }
+    {
+        if let Some((place, predicate)) = self.declared(name) {
+            return Some((place, predicate));
+        }
+        if name != EQUALITY {
+            return None;
+        }
+        Some((self.predicates.len() as u32, &self.equals))
     }
 }

@@ -48,7 +48,7 @@ pub enum TypedTerm {
 #[derive(Debug, Drop)]
 pub struct TypedLiteral {
     pub positive: bool,
-    /// The place of the predicate among the predicates.
+    /// The place of the predicate among the predicates. An equality has the number of predicates.
     pub predicate: u32,
     pub terms: Vec<TypedTerm>,
 }

@@ -1,37 +1,37 @@
-use Rattle.std.proofs.Common.{◌≡◌, ◌<◌, ◌∙◌, ℕ, List, Some, length, get_or, slice_get, sym, ap, subst, arith}
-use Rattle.std.specs.Prelude.{Contains}
+use Rattle.std.proofs.Common.{◌∙◌, Some, length, codes, sym, ap}
 use Rattle.std.proofs.lemmas.List.{length-map}
-use Rattle.std.proofs.lemmas.Option.{slice_get-get_or}
 use Rattle.pddl_reader.specs.Values.{PlainPredicate}
-use Rattle.type_check.specs.Types.{place_in}
-use Rattle.type_check.specs.Rules.{predicate_names, find_predicate}
-use Rattle.type_check.proofs.NameLists.{place_within, predicate_found}
+use Rattle.type_check.specs.Rules.{predicate_names, equality}
+use Rattle.type_check.proofs.NameLaws.{has-not, place-past, differ_from_not, same_from_not}
+use Rattle.type_check.proofs.NameLists.{found_before, found_behind, known_behind, unknown_behind}
 use Rattle.type_check.proofs.predicates.Predicates.find.Goals as goal
 
-pub returns-in_err-place-clause-none : goal.returns-in_err-place-clause-none
-returns-in_err-place-clause-none c =
-    let none = subst (λ names. Contains names c.args.name.now → ⊥) (c.self.invariant.0 ∙ ap predicate_names c.self.view_is) c.in_err-place.ensures.none in
-    rw c.from_residual.ensures none
+pub returns-in-Some-clause-found : goal.returns-in-Some-clause-found
+returns-in-Some-clause-found c =
+    found_before c.args.self.now equality c.args.name.now c.in-Some.ensures.known ∙ c.in-Some.ensures.found
 
--- the place of a name that is found
-place_in_list : (list : List PlainPredicate) (names : List (List ℕ)) (name : List ℕ) (place : ℕ) → names ≡ predicate_names list
-    → Contains names name → place ≡ place_in names name → place < length list
-place_in_list list names name place same has at =
-    let within = place_within names name has in
-    omega (arith, length-map list (λ (q : PlainPredicate). q.name.text), ap length same)
+pub returns-then-ne-clause-none : goal.returns-then-ne-clause-none
+unfolding equality
+returns-then-ne-clause-none c =
+    unknown_behind c.args.self.now equality c.args.name.now c.in_default.ensures.none
+    (λ same. differ_from_not c.args.name.now (codes "=") c.if-ne.ensures (sym same))
 
-pub bounds-self-inside-place : goal.bounds-self-inside-place
-bounds-self-inside-place c =
-    place_in_list c.self.inside.predicates.now c.self.inside.names c.args.name.now c.in_ok-place.place c.self.invariant.0 c.in_ok-place.ensures.found c.in_ok-place.ensures.place
+pub returns-clause-place : goal.returns-clause-place
+returns-clause-place c =
+    let list = c.args.self.now in
+    let name = c.args.name.now in
+    let past = place-past (predicate_names list) name (has-not (predicate_names list) name c.in_default.ensures.none) in
+    ap length c.self.view_is ∙ sym (past ∙ length-map list (λ (q : PlainPredicate). q.name.text))
 
 pub returns-clause-found : goal.returns-clause-found
+unfolding equality
 returns-clause-found c =
-    let list = c.self.inside.predicates.now in
     let name = c.args.name.now in
-    let place = c.in_ok-place.place in
-    let same = c.self.invariant.0 in
-    let has : Contains (predicate_names list) name = subst (λ names. Contains names name) same c.in_ok-place.ensures.found in
-    let at : place ≡ place_in (predicate_names list) name = c.in_ok-place.ensures.place ∙ ap (λ names. place_in names name) same in
-    let within = place_in_list list c.self.inside.names name place same c.in_ok-place.ensures.found c.in_ok-place.ensures.place in
-    subst (λ all. find_predicate all name ≡ Some (get_or list place c.index-self-place.result)) c.self.view_is
-    (predicate_found list name has ∙ ap (slice_get list) (sym at) ∙ slice_get-get_or list place c.index-self-place.result within)
+    found_behind c.args.self.now equality name c.in_default.ensures.none (sym (same_from_not name (codes "=") c.if-ne.ensures))
+    ∙ ap Some (sym c.self.invariant.2)
+
+pub returns-clause-known : goal.returns-clause-known
+unfolding equality
+returns-clause-known c =
+    let name = c.args.name.now in
+    known_behind c.args.self.now equality name (sym (same_from_not name (codes "=") c.if-ne.ensures))
