@@ -5,28 +5,30 @@ use Rattle.std.specs.Prelude.{◌↔◌, ◌⊎◌, ◌==◌, ◌&&◌, AllPairs
 use Rattle.std.specs.Bool.{Decides}
 use Rattle.std.specs.List.{list_any, flat_map}
 use Rattle.std.specs.Option.{option_map}
-use Rattle.std.proofs.lemmas.Bool.{false_from_ne_true, false≢true, cases_order}
+use Rattle.std.proofs.lemmas.Bool.{false_from_ne_true, false≢true, cases_order, ne_eqb, eq-eqb}
 use Rattle.std.proofs.lemmas.Bool.Decides.{Decides-eqb, Decides-and, Decides-like}
 use Rattle.std.proofs.lemmas.List.{get_or_default, take_more, take_all, length-map}
-use Rattle.std.proofs.lemmas.List.Elements.{All-contains, Contains-push, Contains-push_cases, Contains-append_left}
+use Rattle.std.proofs.lemmas.List.Elements.{All-contains, Contains-get_or, Contains-push, Contains-push_cases, Contains-append_left}
 use Rattle.std.proofs.lemmas.List.Folds.{Any-from_list_any, list_any_at}
 use Rattle.std.proofs.lemmas.Option.{same_Some, slice_get-map, slice_get_within, get_or_from_slice_get}
 use Rattle.std.proofs.lemmas.Slice.Eq.{bytes_eq-Decides}
 use Rattle.indexmap.specs.IndexSet.{insert_key}
 use Rattle.indexmap.proofs.CallerLemmas.{Contains-insert_key, Contains-list_any}
-use Rattle.strips_model.specs.Worlds.{has_atom}
+use Rattle.strips_model.specs.Worlds.{has_atom, places_of}
 use Rattle.type_check.specs.Values.{PlainTyped, PlainTypedPredicate, PlainGroundAtom, is_same_atom}
 use Rattle.type_check.specs.Ground.{IsTypedAtom}
 use Rattle.ground_all.specs.declared.atoms.Standing.TheVariants.{True, False}
 use Rattle.ground_all.specs.declared.atoms.StaticAtom.{StaticAtom}
 use Rattle.ground_all.specs.Tuples.{tuples}
-use Rattle.ground_all.specs.Grounding.{is_fluent, atoms_of, fluent_atoms}
+use Rattle.ground_all.specs.Grounding.{is_fluent, atoms_of, fluent_atoms, is_one_twice, is_true_at_start}
 use Rattle.ground_all.specs.Sound.{ArePlaces, IsSound}
 use Rattle.ground_all.specs.Found.{atom_blocks, fluent_marks, IsKeyOf, IsStanding, AreIndexed}
 use Rattle.ground_all.proofs.TupleLaws.{tuples_differ}
 use Rattle.ground_all.proofs.BlockLists.{place_member, length-starts_of, start_at}
 use Rattle.ground_all.proofs.BlockLaws.{block_item, atom_block_at, atoms_are, atoms_typed, atoms_fluent}
 use Rattle.ground_all.proofs.BlockCounts.{mark_at, length-marks}
+use Rattle.ground_all.proofs.WatchedLaws.{length-task_atoms}
+use Rattle.ground_all.proofs.ComplementLaws.{places_same}
 
 -- ---- tests
 
@@ -142,14 +144,38 @@ module _ (t : PlainTyped) (sound : IsSound t) where
 
 -- ---- how an atom stands
 
+-- an atom that is no equality is true at the start where it is listed
+listed : (t : PlainTyped) (a : PlainGroundAtom) → a.predicate ≢ length t.predicates → is_true_at_start t a ≡ has_atom is_same_atom t.init a
+listed t a other = ap (λ b. if b then is_one_twice a.objects else has_atom is_same_atom t.init a) (ne_eqb a.predicate (length t.predicates) other)
+
+typed_listed : (t : PlainTyped) (a : PlainGroundAtom) → IsTypedAtom t a → is_true_at_start t a ≡ has_atom is_same_atom t.init a
+typed_listed t a typed = listed t a (λ e. absurd (let within : a.predicate < length t.predicates = slice_get_within t.predicates a.predicate typed.predicate typed.there in omega arith))
+
+-- an equality is static, and true of an object and itself
+pub equality_stands : (t : PlainTyped) (a : PlainGroundAtom) → a.predicate ≡ length t.predicates
+    → (has_atom is_same_atom (fluent_atoms t) a ≡ false) × (is_true_at_start t a ≡ is_one_twice a.objects)
+equality_stands t a equality = (
+  finds_none is_same_atom same_atom_is (fluent_atoms t) a
+      (λ h. let typed = atoms_typed t a h in let within : a.predicate < length t.predicates = slice_get_within t.predicates a.predicate typed.predicate typed.there in omega arith),
+  ap (λ b. if b then is_one_twice a.objects else has_atom is_same_atom t.init a) (eq-eqb a.predicate (length t.predicates) equality),
+)
+
+-- the fluent atoms that are true at the start are those that are listed
+pub start_is : (t : PlainTyped) → places_of (is_true_at_start t) 0 (fluent_atoms t) ≡ places_of (has_atom is_same_atom t.init) 0 (fluent_atoms t)
+start_is t = places_same (has_atom is_same_atom t.init) (is_true_at_start t) 0 (fluent_atoms t)
+    (λ j d within. typed_listed t (get_or (fluent_atoms t) j d) (atoms_typed t (get_or (fluent_atoms t) j d) (Contains-get_or (fluent_atoms t) j d within)))
+
 module _ (t : PlainTyped) (marks : List Bool) (starts : List ℕ) (keys : List StaticAtom) (index : AreIndexed t marks starts keys) (a : PlainGroundAtom) where
-  pub untyped_stands : (IsTypedAtom t a → ⊥) → IsStanding t a False
-  untyped_stands none = (
+  pub untyped_stands : a.predicate ≢ length t.predicates → (IsTypedAtom t a → ⊥) → IsStanding t a False
+  untyped_stands other none = (
     finds_none is_same_atom same_atom_is (fluent_atoms t) a (λ h. none (atoms_typed t a h)),
-    finds_none is_same_atom same_atom_is t.init a (λ h. none (All-contains (IsTypedAtom t) t.init a index.sound.init h)),
+    listed t a other ∙ finds_none is_same_atom same_atom_is t.init a (λ h. none (All-contains (IsTypedAtom t) t.init a index.sound.init h)),
   )
 
   module _ (key : StaticAtom) (is : IsKeyOf t a key) (at : ℕ) (here : at ≡ a.predicate) where
+    start_listed : is_true_at_start t a ≡ has_atom is_same_atom t.init a
+    start_listed = listed t a (λ e. absurd (let within : a.predicate < length t.predicates = slice_get_within t.predicates a.predicate is.predicate is.there in omega arith))
+
     declared : slice_get t.predicates at ≡ Some is.predicate
     declared = ap (slice_get t.predicates) here ∙ is.there
 
@@ -172,12 +198,12 @@ module _ (t : PlainTyped) (marks : List Bool) (starts : List ℕ) (keys : List S
       pub true_stands : mark ≡ false → list_any (is_same_key key) keys ≡ true → IsStanding t a True
       true_stands unmarked there =
           let found = (index.keyed key).0 (Contains-list_any is_same_key (λ x y. (same_key_is x y).0) keys key there) in
-          (static unmarked, finds is_same_atom same_atom_is t.init a (subst (Contains t.init) (one_atom t found.0 a key found.2 is) found.1))
+          (static unmarked, start_listed ∙ finds is_same_atom same_atom_is t.init a (subst (Contains t.init) (one_atom t found.0 a key found.2 is) found.1))
 
       pub false_stands : mark ≡ false → list_any (is_same_key key) keys ≡ false → IsStanding t a False
       false_stands unmarked lacks = (
         static unmarked,
-        finds_none is_same_atom same_atom_is t.init a
+        start_listed ∙ finds_none is_same_atom same_atom_is t.init a
             (λ h. let has = (index.keyed key).1 (a, h, is) in
             false≢true (sym lacks ∙ list_any_at (is_same_key key) keys has.0 key has.1 (ap (is_same_key key) has.2 ∙ (same_key_is key key).1 refl))),
       )
@@ -196,4 +222,4 @@ module _ (t : PlainTyped) (marks : List Bool) (starts : List ℕ) (keys : List S
             ∙ subst (λ n. slice_get (flat_map (λ (b : List PlainGroundAtom). b) (atom_blocks t)) (n + key.number) ≡ Some a) first (block_item (atom_blocks t) a.predicate key.number (atoms_of a.predicate q) a block item)
 
         pub number_short : start + key.number < 3072
-        number_short = omega (arith, slice_get_within (fluent_atoms t) (start + key.number) a fluent_stands, index.few)
+        number_short = omega (arith, slice_get_within (fluent_atoms t) (start + key.number) a fluent_stands, length-task_atoms t, index.few)

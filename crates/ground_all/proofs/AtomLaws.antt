@@ -11,7 +11,7 @@ use Rattle.strips_model.specs.Worlds.{has_atom}
 use Rattle.type_check.specs.Values.{PlainTyped, PlainGroundAtom, is_same_atom}
 use Rattle.ground_all.specs.declared.atoms.Standing.{Standing}
 use Rattle.ground_all.specs.declared.atoms.Standing.TheVariants.{Fluent, True, False}
-use Rattle.ground_all.specs.Grounding.{fluent_atoms}
+use Rattle.ground_all.specs.Grounding.{fluent_atoms, is_true_at_start}
 use Rattle.ground_all.specs.Found.{IsStanding}
 
 -- two atoms are the same exactly where the test says so.
@@ -37,7 +37,14 @@ fluent_is t a n there =
 
 -- an atom that is not both static and false at the start
 pub other_is : (t : PlainTyped) (a : PlainGroundAtom) (s : Standing) → IsStanding t a s → (s ≡ False → ⊥)
-    → (not (has_atom is_same_atom (fluent_atoms t) a) && not (has_atom is_same_atom t.init a)) ≡ false
-other_is t a (Fluent n) standing other = ap (λ b. not b && not (has_atom is_same_atom t.init a)) (fluent_is t a n.0 standing)
+    → (not (has_atom is_same_atom (fluent_atoms t) a) && not (is_true_at_start t a)) ≡ false
+other_is t a (Fluent n) standing other = ap (λ b. not b && not (is_true_at_start t a)) (fluent_is t a n.0 standing)
 other_is t a True standing other = ap₂ (λ b d. not b && not d) standing.0 standing.1
 other_is t a False standing other = absurd (other refl)
+
+-- an atom that is not both static and true at the start
+pub not_true_is : (t : PlainTyped) (a : PlainGroundAtom) (s : Standing) → IsStanding t a s → (s ≡ True → ⊥)
+    → (not (has_atom is_same_atom (fluent_atoms t) a) && is_true_at_start t a) ≡ false
+not_true_is t a (Fluent n) standing other = ap (λ b. not b && is_true_at_start t a) (fluent_is t a n.0 standing)
+not_true_is t a True standing other = absurd (other refl)
+not_true_is t a False standing other = ap₂ (λ b d. not b && d) standing.0 standing.1

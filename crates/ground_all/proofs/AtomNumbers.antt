@@ -76,7 +76,7 @@ set_of-dedup (x ∷ xs) n = set_of-dedup_from x xs n
 -- the places at which a test passes
 
 module _ {A : Type 0} (p : A → Bool) where
-  places_above : (j k : ℕ) (xs : List A) → j < k → AllByRecursion (λ a. j < a.0) (places_of p k xs)
+  pub places_above : (j k : ℕ) (xs : List A) → j < k → AllByRecursion (λ a. j < a.0) (places_of p k xs)
   places_above j k [] lt = tt
   places_above j k (x ∷ xs) lt = each (p x) (places_above j (k + 1) xs (omega arith))
     where
@@ -85,7 +85,7 @@ module _ {A : Type 0} (p : A → Bool) where
       each true rest = (lt, rest)
       each false rest = rest
 
-  places_rise : (k : ℕ) (xs : List A) → IsRisingBy number (places_of p k xs)
+  pub places_rise : (k : ℕ) (xs : List A) → IsRisingBy number (places_of p k xs)
   places_rise k [] = tt
   places_rise k (x ∷ xs) = each (p x) (places_rise (k + 1) xs)
     where
@@ -94,7 +94,7 @@ module _ {A : Type 0} (p : A → Bool) where
       each true rest = (places_above k (k + 1) xs (omega arith), rest)
       each false rest = rest
 
-  places_below : (n k : ℕ) (xs : List A) → k + length xs ≤ n → AllByRecursion (λ a. a.0 < n) (places_of p k xs)
+  pub places_below : (n k : ℕ) (xs : List A) → k + length xs ≤ n → AllByRecursion (λ a. a.0 < n) (places_of p k xs)
   places_below n k [] fits = tt
   places_below n k (x ∷ xs) fits = each (p x) (places_below n (k + 1) xs (omega arith))
     where

@@ -13,7 +13,7 @@ use Rattle.ground_all.proofs.BlockLists.{length-numbered, numbered_at, place_wit
 use Rattle.ground_all.proofs.BlockLaws.{atom_block_at, name_block_at}
 
 -- the count of one block more
-count_more : {X : Type 0} (blocks : List (List X)) (i n : ℕ) (block : List X) (old new : List ℕ) → slice_get blocks i ≡ Some block → old ≡ take i (map length blocks) → new ≡ old ++ n ∷ [] → n ≡ length block → new ≡ take (i + 1) (map length blocks)
+pub count_more : {X : Type 0} (blocks : List (List X)) (i n : ℕ) (block : List X) (old new : List ℕ) → slice_get blocks i ≡ Some block → old ≡ take i (map length blocks) → new ≡ old ++ n ∷ [] → n ≡ length block → new ≡ take (i + 1) (map length blocks)
 count_more {X} blocks i n block old new at before more is =
     let many : List X → ℕ = λ b. length b in
     let within : i < length blocks = slice_get_within blocks i block at in

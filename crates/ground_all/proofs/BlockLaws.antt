@@ -1,5 +1,5 @@
 -- The fluent atoms and the typed instances as lists that stand behind one another.
-use Rattle.std.proofs.Common.{◌≡◌, ◌≢◌, ℕ, ◌+◌, ◌^◌, ◌<◌, ◌≤◌, Bool, true, false, List, [], length, map, take, get_or, sum, Some, Contains, refl, sym, ap, ◌∙◌, subst, zero-add, arith}
+use Rattle.std.proofs.Common.{◌≡◌, ◌≢◌, ℕ, ◌+◌, ◌^◌, ◌≤◌, Bool, true, false, List, [], length, map, take, get_or, sum, Some, Contains, refl, sym, ap, ◌∙◌, subst, zero-add, arith}
 use Rattle.std.specs.Prelude.{All, AllPairs, slice_get, if◌then◌else◌}
 use Rattle.std.specs.List.{flat_map}
 use Rattle.std.proofs.lemmas.List.{length-map}
@@ -131,7 +131,7 @@ few_tuples places are =
     let powers : 1024 ^ length places ≤ 1024 ^ 8 = pow-le-pow_right (omega arith) are.few in
     omega (arith, tuples_few 1024 places are.short, powers)
 
--- so at most 2^20 blocks of them are short together
+-- so at most 2^20 blocks of them have at most 2^100 items together
 module _ {X A : Type 0} (f : ℕ × X → List A) (P : X → Type 0) (each : (n : ℕ) (x : X) → P x → length (f (n, x)) ≤ 2 ^ 80) where
   short_blocks : (xs : List X) → All P xs → All (λ y. length (f y) ≤ 2 ^ 80) (numbered 0 xs)
   short_blocks xs all k d within =
@@ -139,20 +139,24 @@ module _ {X A : Type 0} (f : ℕ × X → List A) (P : X → Type 0) (each : (n 
       let at : slice_get xs k ≡ Some y.1 = (at_numbered 0 xs k y (slice_get-get_or (numbered 0 xs) k d within)).1 in
       each y.0 y.1 (subst P (get_or_from_slice_get xs k y.1 y.1 at) (all k y.1 (slice_get_within xs k y.1 at)))
 
-  few_blocks : (xs : List X) → All P xs → length xs ≤ 2 ^ 20 → sum (map length (map f (numbered 0 xs))) < 2 ^ 128
+  pub few_blocks : (xs : List X) → All P xs → length xs ≤ 2 ^ 20 → sum (map length (map f (numbered 0 xs))) ≤ 2 ^ 100
   few_blocks xs all few =
       let blocks = map f (numbered 0 xs) in
       let short : All (λ b. length b ≤ 2 ^ 80) blocks = All-map (λ (b : List A). length b ≤ 2 ^ 80) f (numbered 0 xs) (short_blocks xs all) in
       omega (arith, sum-map (λ (b : List A). length b) blocks, sum_by-le (λ (b : List A). length b) (2 ^ 80) blocks short, length-map (numbered 0 xs) f, length-numbered 0 xs)
 
-pub few_all : (t : PlainTyped) → IsSound t → sum (map length (atom_blocks t)) < 2 ^ 128
+-- a predicate's atoms
+pub length-few : (n : ℕ) (q : PlainTypedPredicate) → ArePlaces q.places → length (atoms_of n q) ≤ 2 ^ 80
+length-few n q places = omega (arith, length-map (tuples q.places) (λ (objects : List ℕ). let a : PlainGroundAtom = record { predicate = n; objects = objects } in a), few_tuples q.places places)
+
+pub few_all : (t : PlainTyped) → IsSound t → sum (map length (atom_blocks t)) ≤ 2 ^ 100
 few_all t sound = few_blocks (atoms_at t) (λ q. ArePlaces q.places) (λ n q places. each n q places (is_fluent t n)) t.predicates sound.predicates sound.few_predicates
   where
     each : (n : ℕ) (q : PlainTypedPredicate) → ArePlaces q.places → (b : Bool) → length (if b then atoms_of n q else []) ≤ 2 ^ 80
-    each n q places true = omega (arith, length-map (tuples q.places) (λ (objects : List ℕ). let a : PlainGroundAtom = record { predicate = n; objects = objects } in a), few_tuples q.places places)
+    each n q places true = length-few n q places
     each n q places false = omega arith
 
-pub few_all_names : (t : PlainTyped) → IsSound t → sum (map length (name_blocks t)) < 2 ^ 128
+pub few_all_names : (t : PlainTyped) → IsSound t → sum (map length (name_blocks t)) ≤ 2 ^ 100
 few_all_names t sound = few_blocks names_at (λ s. ArePlaces s.places) each t.schemas sound.schemas sound.few_schemas
   where
     each : (n : ℕ) (s : PlainTypedSchema) → ArePlaces s.places → length (names_of_schema n s) ≤ 2 ^ 80

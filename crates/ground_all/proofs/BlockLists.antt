@@ -81,12 +81,12 @@ length-numbered k (x ∷ xs) = ap suc (length-numbered (k + 1) xs)
 
 -- ---- lists behind one another
 
-get_front : {X : Type 0} (front back : List X) (k : ℕ) (x : X) → slice_get front k ≡ Some x → slice_get (front ++ back) k ≡ Some x
+pub get_front : {X : Type 0} (front back : List X) (k : ℕ) (x : X) → slice_get front k ≡ Some x → slice_get (front ++ back) k ≡ Some x
 get_front [] back k x at = absurd (none-some x at)
 get_front (y ∷ front) back zero x at = at
 get_front (y ∷ front) back (suc k) x at = get_front front back k x at
 
-get_behind : {X : Type 0} (front back : List X) (k : ℕ) (x : X) → slice_get back k ≡ Some x → slice_get (front ++ back) (length front + k) ≡ Some x
+pub get_behind : {X : Type 0} (front back : List X) (k : ℕ) (x : X) → slice_get back k ≡ Some x → slice_get (front ++ back) (length front + k) ≡ Some x
 get_behind [] back k x at = subst (λ i. slice_get back i ≡ Some x) (sym (zero-add k)) at
 get_behind (y ∷ front) back k x at =
     let index : suc (length front + k) ≡ suc (length front) + k = omega arith in

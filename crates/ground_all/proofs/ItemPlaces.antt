@@ -4,14 +4,14 @@ use mathlib.Core.Path.{ap₂}
 use Rattle.std.specs.List.{flat_map, sum}
 use Rattle.std.specs.Option.{option_map}
 use Rattle.std.proofs.lemmas.List.{length-map, get_or-map}
-use Rattle.std.proofs.lemmas.Option.{slice_get-map, slice_get_within, slice_get_read, get_or_from_slice_get}
+use Rattle.std.proofs.lemmas.Option.{slice_get-map, slice_get_within, slice_get_read, get_or_from_slice_get, same_Some}
 use Rattle.type_check.specs.Values.{PlainTyped, PlainTypedPredicate, PlainTypedSchema, PlainGroundAtom, PlainGroundName}
 use Rattle.type_check.specs.Ground.{FitPlaces, IsTypedName}
 use Rattle.ground_all.specs.Tuples.{tuples, numbered}
 use Rattle.ground_all.specs.Grounding.{is_fluent, atoms_of, names_of_schema, fluent_atoms, instances}
 use Rattle.ground_all.specs.Sound.{ArePlaces, IsSound}
 use Rattle.ground_all.specs.Found.{atom_blocks, name_blocks, atom_starts, action_starts, starts_of, IsPlaceIn, IsAtomAt, IsActionAt}
-use Rattle.ground_all.proofs.BlockLists.{length-numbered, length-starts_of, start_at}
+use Rattle.ground_all.proofs.BlockLists.{place_within as tuple_within, length-numbered, length-starts_of, start_at}
 use Rattle.ground_all.proofs.BlockLaws.{block_item, atom_block_at, name_block_at, atoms_are, instances_are, atoms_sum, instances_sum}
 
 map_at : {X Y : Type 0} (f : X → Y) (xs : List X) (n : ℕ) (x : X) → slice_get xs n ≡ Some x → slice_get (map f xs) n ≡ Some (f x)
@@ -55,16 +55,20 @@ module _ (t : PlainTyped) (k : ℕ) (q : PlainTypedPredicate) (declared : slice_
       let atom : List ℕ → PlainGroundAtom = λ objects. record { predicate = k; objects = objects } in
       omega (arith, place_within (atom_blocks t) number k place (atoms_of k q) is fluent_block, length-map (tuples q.places) atom)
 
-  pub atom_there : (objects : List ℕ) → slice_get (tuples q.places) place ≡ Some objects → IsAtomAt t number q objects
-  atom_there objects at =
+  atom_is : (objects : List ℕ) → slice_get (tuples q.places) place ≡ Some objects → slice_get (fluent_atoms t) number ≡ Some (record { predicate = k; objects = objects })
+  atom_is objects at =
       let atom : List ℕ → PlainGroundAtom = λ objects. record { predicate = k; objects = objects } in
-      record {
-        atom = atom objects;
-        there = subst (λ atoms. slice_get atoms number ≡ Some (atom objects)) (sym (atoms_are t))
-            (item_at (atom_blocks t) number k place (atoms_of k q) (atom objects) is fluent_block (map_at atom (tuples q.places) place objects at));
-        declared = declared;
-        are = refl;
-      }
+      subst (λ atoms. slice_get atoms number ≡ Some (atom objects)) (sym (atoms_are t))
+      (item_at (atom_blocks t) number k place (atoms_of k q) (atom objects) is fluent_block (map_at atom (tuples q.places) place objects at))
+
+  pub atom_there : (objects : List ℕ) → slice_get (tuples q.places) place ≡ Some objects → IsAtomAt t number q objects
+  atom_there objects at = record { atom = record { predicate = k; objects = objects }; there = atom_is objects at; declared = declared; are = refl }
+
+  -- the atom with this number is one of the predicate
+  pub predicate_of : (atom : PlainGroundAtom) → slice_get (fluent_atoms t) number ≡ Some atom → atom.predicate ≡ k
+  predicate_of atom there =
+      let found = tuple_within (tuples q.places) place atom_tuple in
+      ap (λ (a : PlainGroundAtom). a.predicate) (same_Some atom _ (sym there ∙ atom_is found.0 found.1))
 
 pub predicate_there : (t : PlainTyped) (number k place : ℕ) → IsPlaceIn (map length (atom_blocks t)) number k place → k < length t.predicates
 predicate_there t number k place is =

@@ -11,8 +11,12 @@ pub mod StartAtoms
 pub mod GroundCounts
 pub mod SoundLaws
 pub mod AtomNumbers
+pub mod ComplementLaws
+pub mod WorldLaws
 pub mod AtomLaws
 pub mod TaskLaws
 pub mod NameLaws
+pub mod ComplementNames
 pub mod TextLaws
 pub mod ItemPlaces
+pub mod WatchedLaws

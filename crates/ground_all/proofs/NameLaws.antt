@@ -16,7 +16,7 @@ use Rattle.ground_all.specs.Names.{IsTextAt}
 use Rattle.ground_all.specs.Found.{IsAtomAt, IsActionAt}
 use Rattle.ground_all.specs.Sound.{IsShortName, AreNames, IsSound}
 use Rattle.ground_all.proofs.TupleLaws.{fit_below}
-use Rattle.ground_all.proofs.BlockLaws.{atoms_typed, instances_typed, atoms_differ, instances_differ}
+use Rattle.ground_all.proofs.BlockLaws.{atoms_typed, instances_typed, instances_differ}
 
 -- ---- different items
 
@@ -33,7 +33,7 @@ same_place xs differ j k x at there =
 -- ---- names
 
 -- the text does not go on with a byte of a name
-abbrev IsBehind : List ℕ → Type 0
+abbrev pub IsBehind : List ℕ → Type 0
 IsBehind [] = Unit {0}
 IsBehind (b ∷ bytes) = is_name_byte b ≡ false
 
@@ -41,7 +41,7 @@ behind_name : (text : List ℕ) (b : ℕ) (bytes : List ℕ) → IsBehind text �
 behind_name text b bytes behind e named = false≢true (sym (subst IsBehind e behind) ∙ named)
 
 -- names in front of two texts end at the same place
-names_end : (n m r s : List ℕ) → list_all is_name_byte n ≡ true → list_all is_name_byte m ≡ true → IsBehind r → IsBehind s → n ++ r ≡ m ++ s → (n ≡ m) × (r ≡ s)
+pub names_end : (n m r s : List ℕ) → list_all is_name_byte n ≡ true → list_all is_name_byte m ≡ true → IsBehind r → IsBehind s → n ++ r ≡ m ++ s → (n ≡ m) × (r ≡ s)
 names_end [] [] r s named other behind after e = (refl, e)
 names_end [] (y ∷ m) r s named other behind after e =
     absurd (behind_name r y (m ++ s) behind e (and_parts (is_name_byte y) (list_all is_name_byte m) other).0)
@@ -53,7 +53,7 @@ names_end (x ∷ n) (y ∷ m) r s named other behind after e =
     (and_parts (is_name_byte y) (list_all is_name_byte m) other).1 behind after (ap (drop 1) e) in
     (cc, more.1)
 
-name_bytes : (text : List ℕ) → IsShortName text → list_all is_name_byte text ≡ true
+pub name_bytes : (text : List ℕ) → IsShortName text → list_all is_name_byte text ≡ true
 name_bytes [] short = absurd (false≢true short.is)
 name_bytes (b ∷ bytes) short = (and_parts _ (list_all is_name_byte (b ∷ bytes)) short.is).1
 
@@ -74,14 +74,14 @@ same_text texts j k names one other e =
 -- ---- names in brackets
 
 -- the names of objects behind spaces, and the bracket
-abbrev tail : List (List ℕ) → List ℕ → List ℕ
+abbrev pub tail : List (List ℕ) → List ℕ → List ℕ
 tail texts objects = flat_map (λ k. codes " " ++ text_at texts k) objects ++ codes ")"
 
-tail_behind : (texts : List (List ℕ)) (objects : List ℕ) → IsBehind (tail texts objects)
+pub tail_behind : (texts : List (List ℕ)) (objects : List ℕ) → IsBehind (tail texts objects)
 tail_behind texts [] = refl
 tail_behind texts (k ∷ objects) = refl
 
-tail-cons : (texts : List (List ℕ)) (k : ℕ) (objects : List ℕ) → tail texts (k ∷ objects) ≡ 32 ∷ (text_at texts k ++ tail texts objects)
+pub tail-cons : (texts : List (List ℕ)) (k : ℕ) (objects : List ℕ) → tail texts (k ∷ objects) ≡ 32 ∷ (text_at texts k ++ tail texts objects)
 tail-cons texts k objects =
     ap (λ bytes. 32 ∷ bytes) (append_assoc (text_at texts k) (flat_map (λ k. codes " " ++ text_at texts k) objects) (codes ")"))
 
@@ -105,7 +105,7 @@ same_tail texts (j ∷ a) (k ∷ b) names below under e =
     let parts = tail_parts texts j k a b names (All-head (λ k. k < length texts) j a below) (All-head (λ k. k < length texts) k b under) e in
     ap₂ (λ k b. k ∷ b) parts.0 (same_tail texts a b names (All-tail (λ k. k < length texts) j a below) (All-tail (λ k. k < length texts) k b under) parts.1)
 
-bracketed_is : (t : PlainTyped) (name objects : List ℕ) → bracketed t name objects ≡ 40 ∷ (name ++ tail (object_texts t) objects)
+pub bracketed_is : (t : PlainTyped) (name objects : List ℕ) → bracketed t name objects ≡ 40 ∷ (name ++ tail (object_texts t) objects)
 unfolding bracketed
 bracketed_is t name objects =
     ap (λ bytes. 40 ∷ bytes) (append_assoc name (flat_map (λ k. codes " " ++ text_at (object_texts t) k) objects) (codes ")"))
@@ -127,7 +127,7 @@ atom_objects t a sound typed =
     let is = get_or_from_slice_get t.predicates a.predicate typed.predicate typed.predicate typed.there in
     fit_below (length t.objects) typed.predicate.places a.objects (subst (λ q. All (All (λ k. k < length t.objects)) q.places) is (sound.predicate_objects a.predicate typed.predicate within)) typed.fit
 
-predicate_within : (t : PlainTyped) (a : PlainGroundAtom) → IsTypedAtom t a → a.predicate < length (predicate_texts t)
+pub predicate_within : (t : PlainTyped) (a : PlainGroundAtom) → IsTypedAtom t a → a.predicate < length (predicate_texts t)
 predicate_within t a typed =
     let within = slice_get_within t.predicates a.predicate typed.predicate typed.there in
     omega (arith, length-map t.predicates (λ q. q.name.text))
@@ -147,13 +147,6 @@ atom_has : (t : PlainTyped) (k : ℕ) (a : PlainGroundAtom) → slice_get (fluen
 atom_has t k a at =
     atoms_typed t a (k, slice_get_within (fluent_atoms t) k a at, get_or_from_slice_get (fluent_atoms t) k a a at)
 
--- no other fluent atom has the atom's text
-pub atom_only : (t : PlainTyped) (number : ℕ) (atom : PlainGroundAtom) → IsSound t → slice_get (fluent_atoms t) number ≡ Some atom
-    → (k : ℕ) (other : PlainGroundAtom) → slice_get (fluent_atoms t) k ≡ Some other → atom_text t other ≡ atom_text t atom → k ≡ number
-atom_only t number atom sound at k other there e =
-    let same : other ≡ atom = same_atom t other atom sound (atom_has t k other there) (atom_has t number atom at) e in
-    same_place (fluent_atoms t) (atoms_differ t sound) k number atom (there ∙ ap Some same) at
-
 predicate_text : (t : PlainTyped) (k : ℕ) (q : PlainTypedPredicate) → slice_get t.predicates k ≡ Some q → text_at (predicate_texts t) k ≡ q.name.text
 predicate_text t k q declared =
     let name : PlainTypedPredicate → List ℕ = λ q. q.name.text in
@@ -172,16 +165,6 @@ module _ (t : PlainTyped) (number : ℕ) (q : PlainTypedPredicate) (objects : Li
   text_of_atom atom there =
       ap₂ (bracketed t) (sym (predicate_text t at.atom.predicate q at.declared)) (sym at.are)
       ∙ ap (atom_text t) (same_Some at.atom atom (sym at.there ∙ there))
-
-  pub atom_text_at : (text : List ℕ) → text ≡ bracketed t q.name.text objects → IsTextAt (atom_text t) (fluent_atoms t) number text
-  atom_text_at text is =
-      let same : text ≡ atom_text t at.atom = is ∙ text_of_atom at.atom at.there in
-      record {
-        item = at.atom;
-        there = at.there;
-        is = same;
-        only = λ k other there e. atom_only t number at.atom sound at.there k other there (e ∙ same);
-      }
 
 -- ---- actions
 

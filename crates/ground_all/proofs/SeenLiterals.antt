@@ -10,7 +10,7 @@ use Rattle.pddl_reader.specs.Sections.{Pairwise}
 use Rattle.type_check.specs.declared.faults.TypeKind.TheVariants.{UnknownPredicate, WrongCount, UnboundVariable}
 use Rattle.type_check.specs.Types.{names_of, place_in}
 use Rattle.type_check.specs.Checks.{Check, OneOf, SameCount, Passes, fault_at}
-use Rattle.type_check.specs.Rules.{predicate_names, find_predicate, find_name, fit_checks, term_checks, terms_checks, fitting_checks, literal_checks}
+use Rattle.type_check.specs.Rules.{predicate_names, known_predicates, find_predicate, find_name, fit_checks, term_checks, terms_checks, fitting_checks, literal_checks}
 use Rattle.type_check.specs.Typing.{typed_term, typed_literal}
 use Rattle.type_check.proofs.Passed.{all_left, all_right}
 use Rattle.type_check.proofs.NameLists.{place_within, predicate_found}
@@ -21,10 +21,10 @@ use Rattle.ground_all.specs.Sound.{IsTermOf, IsLiteralOf}
 pub record TermPasses (d : PlainDomain) (file : FileRole) (parameters objects : List PlainTypedName) (t : PlainTerm) (place : PlainTypedName) : Type 0 where
   pub passes : All (Passes d) (term_checks file parameters objects t place)
 
--- the literal's predicate is declared, and each term passes at its place
+-- the literal's predicate is declared, or it is an equality; and each term passes at its place
 pub record IsSeen (d : PlainDomain) (file : FileRole) (parameters objects : List PlainTypedName) (l : PlainLiteral) : Type 0 where
   pub predicate : PlainPredicate
-  pub there : slice_get d.predicates (place_in (predicate_names d.predicates) l.predicate.text) ≡ Some predicate
+  pub there : find_predicate (known_predicates d) l.predicate.text ≡ Some predicate
   pub terms : Pairwise (TermPasses d file parameters objects) l.terms predicate.parameters
 
 pub something : {X : Type 0} (xs : List X) (k : ℕ) → k < length xs → slice_get xs k ≡ None → ⊥
@@ -43,25 +43,25 @@ module _ (d : PlainDomain) (file : FileRole) (parameters objects : List PlainTyp
       let rest = terms_checks file parameters objects terms places in
       (record { passes = all_left (Passes d) here rest h }, terms_pass terms places (omega arith) (all_right (Passes d) here rest h))
 
-  seen_by : (l : PlainLiteral) → Contains (predicate_names d.predicates) l.predicate.text → (found : Option PlainPredicate) → find_predicate d.predicates l.predicate.text ≡ found
+  seen_by : (l : PlainLiteral) → Contains (predicate_names (known_predicates d)) l.predicate.text → (found : Option PlainPredicate) → find_predicate (known_predicates d) l.predicate.text ≡ found
       → All (Passes d) (fitting_checks file parameters objects l found) → IsSeen d file parameters objects l
   seen_by l has None is h =
-      let within : place_in (predicate_names d.predicates) l.predicate.text < length d.predicates =
-      omega (arith, place_within (predicate_names d.predicates) l.predicate.text has, length-map d.predicates (λ (q : PlainPredicate). q.name.text)) in
-      absurd (something d.predicates (place_in (predicate_names d.predicates) l.predicate.text) within (sym (predicate_found d.predicates l.predicate.text has) ∙ is))
+      let within : place_in (predicate_names (known_predicates d)) l.predicate.text < length (known_predicates d) =
+      omega (arith, place_within (predicate_names (known_predicates d)) l.predicate.text has, length-map (known_predicates d) (λ (q : PlainPredicate). q.name.text)) in
+      absurd (something (known_predicates d) (place_in (predicate_names (known_predicates d)) l.predicate.text) within (sym (predicate_found (known_predicates d) l.predicate.text has) ∙ is))
   seen_by l has (Some q) is h =
       let count : Check = record { need = SameCount (length l.terms) (length q.parameters); fault = fault_at WrongCount file l.predicate.at } in
       let terms = terms_checks file parameters objects l.terms q.parameters in
       record {
         predicate = q;
-        there = sym (predicate_found d.predicates l.predicate.text has) ∙ is;
+        there = is;
         terms = terms_pass l.terms q.parameters (All-head (Passes d) count terms h) (All-tail (Passes d) count terms h);
       }
 
   pub literal_seen : (l : PlainLiteral) → All (Passes d) (literal_checks file d parameters objects l) → IsSeen d file parameters objects l
   literal_seen l h =
-      let declared : Check = record { need = OneOf (predicate_names d.predicates) l.predicate.text; fault = fault_at UnknownPredicate file l.predicate.at } in
-      let found = find_predicate d.predicates l.predicate.text in
+      let declared : Check = record { need = OneOf (predicate_names (known_predicates d)) l.predicate.text; fault = fault_at UnknownPredicate file l.predicate.at } in
+      let found = find_predicate (known_predicates d) l.predicate.text in
       let rest = fitting_checks file parameters objects l found in
       seen_by l (All-head (Passes d) declared rest h) found refl (All-tail (Passes d) declared rest h)
 

@@ -1,12 +1,13 @@
 -- What a typed domain and problem have.
-use Rattle.std.proofs.Common.{◌≡◌, ℕ, ◌≤◌, List, [], ◌∷◌, ◌++◌, length, map, sym, ap, subst, arith}
+use Rattle.std.proofs.Common.{None, ◌≡◌, ℕ, ◌≤◌, List, [], ◌∷◌, ◌++◌, length, map, sym, ap, subst, arith}
 use Rattle.std.specs.List.{All, flat_map}
 use Rattle.std.proofs.lemmas.List.{length-map}
 use Rattle.std.proofs.lemmas.List.Elements.{All-head, All-tail, All-map, All-weaker}
 use Rattle.grd_base.specs.declared.roles.FileRole.TheVariants.{Domain}
-use Rattle.pddl_reader.specs.Kinds.{Names}
+use Rattle.pddl_reader.specs.Classes.{head_feature}
+use Rattle.pddl_reader.specs.Kinds.{Names, Start}
 use Rattle.pddl_reader.specs.Values.{PlainLiteral, PlainSchema, PlainPredicate, PlainDomain, PlainProblem}
-use Rattle.pddl_reader.proofs.NamesOfValues.{SoundTyped}
+use Rattle.pddl_reader.proofs.NamesOfValues.{SoundTyped, SoundLiteral}
 use Rattle.type_check.specs.Types.{names_of}
 use Rattle.type_check.specs.Checks.{Passes}
 use Rattle.type_check.specs.Rules.{few_parameters, names_checks, predicate_names, predicate_checks, schema_names, few_literals, literals_of, literal_checks, is_new, action_checks, all_objects, IsWellTyped}
@@ -18,7 +19,7 @@ use Rattle.type_check.proofs.Known.{few_objects}
 use Rattle.type_check.proofs.Counts.{few_predicates, few_actions}
 use Rattle.type_check.proofs.TypedTasks.{predicates_numbered, schemas_numbered, objects_numbered}
 use Rattle.type_check.proofs.Pairs.{pairs_length, pairs_give}
-use Rattle.type_check.proofs.TypedNames.{IsFileWord, IsFileName, objects_sound, predicates_named, schemas_named, objects_named}
+use Rattle.type_check.proofs.TypedNames.{problem_names, IsFileWord, IsFileName, objects_sound, predicates_named, schemas_named, objects_named}
 use Rattle.ground_all.specs.Sound.{ArePlaces, AreBelow, IsLiteralOf, IsShortName, AreNames, IsSound}
 use Rattle.ground_all.proofs.PlaceLaws.{places_below, places_sound}
 use Rattle.ground_all.proofs.SeenLiterals.{literal_within}
@@ -124,7 +125,8 @@ module _ (t : PlainTyped) (task : IsTypedTask t) where
         (λ a s is ok. literals_within a s is a.pre s.pre is.pre (all_left (Passing d a) a.pre a.effect ok.literals)) (all_allowed d p task.well_typed);
     effect = of_schemas (IsAllowed d) (λ s. All (IsLiteralOf (length s.places)) s.effect)
         (λ a s is ok. literals_within a s is a.effect s.effect is.effect (all_right (Passing d a) a.pre a.effect ok.literals)) (all_allowed d p task.well_typed);
-    init = init_typed d p have_types task.well_typed t task.made;
+    init = init_typed d p have_types task.well_typed
+        (All-weaker (SoundLiteral IsFileWord Start) (λ l. head_feature Start l.predicate.text ≡ None) (λ l is. is.plain) p.init (problem_names p task.is_problem).init) t task.made;
     predicate_names = predicate_names_are;
     schema_names = schema_names_are;
     object_names = object_names_are;

@@ -6,6 +6,7 @@ use Rattle.std.proofs.lemmas.List.Concat.{flat_map-append}
 use Rattle.type_check.specs.Values.{PlainTyped, PlainTypedObject}
 use Rattle.type_check.specs.Numbered.{object_texts}
 use Rattle.type_check.specs.Ground.{text_at, bracketed}
+use Rattle.ground_all.specs.Names.{IsWritten}
 use Rattle.ground_all.specs.Sound.{IsSound}
 use Rattle.ground_all.proofs.NameLaws.{text_short}
 
@@ -71,25 +72,20 @@ pub front_all : (t : PlainTyped) (name objects : List ℕ) (i : ℕ) → length 
 unfolding bracketed
 front_all t name objects i past = ap (λ objects. codes "(" ++ name ++ words t objects ++ codes ")") (take_all i objects past)
 
--- the front is written, up to here, over the old bytes
-pub record IsWritten (front old into : List ℕ) (at : ℕ) : Type 0 where
-  pub place : at ≡ length front
-  pub text : into ≡ front ++ drop at old
-
 pub none_written : (old : List ℕ) → IsWritten [] old old 0
-none_written old = record { place = refl; text = refl }
+none_written old = record { place = refl; whole = refl }
 
 -- one piece more
 pub written : (front piece given old into new : List ℕ) (at after : ℕ) → IsWritten front old into at → given ≡ piece → after ≡ at + length given
     → new ≡ take at into ++ given ++ drop after into → IsWritten (front ++ piece) old new after
 written front piece given old into new at after is same ends put =
-    let one : take at into ≡ front = ap (take at) is.text ∙ take_at front (drop at old) at (sym is.place) in
-    let past : drop at into ≡ drop at old = ap (drop at) is.text ∙ drop_at front (drop at old) at (sym is.place) in
+    let one : take at into ≡ front = ap (take at) is.whole ∙ take_at front (drop at old) at (sym is.place) in
+    let past : drop at into ≡ drop at old = ap (drop at) is.whole ∙ drop_at front (drop at old) at (sym is.place) in
     let rest : drop after into ≡ drop after old =
     ap (λ n. drop n into) ends ∙ sym (drop-drop (length given) at into) ∙ ap (drop (length given)) past ∙ drop-drop (length given) at old ∙ ap (λ n. drop n old) (sym ends) in
     record {
       place = omega (arith, ends, is.place, ap length same, length-append front piece);
-      text = put ∙ ap (λ bytes. bytes ++ given ++ drop after into) one ∙ ap (λ bytes. front ++ bytes ++ drop after into) same ∙ ap (λ bytes. front ++ piece ++ bytes) rest;
+      whole = put ∙ ap (λ bytes. bytes ++ given ++ drop after into) one ∙ ap (λ bytes. front ++ bytes ++ drop after into) same ∙ ap (λ bytes. front ++ piece ++ bytes) rest;
     }
 
 -- the bracket behind all objects

@@ -4,8 +4,10 @@
 -- Tuples of objects.
 pub use Rattle.ground_all.specs.Tuples.{tuples, numbered}
 -- The world of a typed domain and problem.
-pub use Rattle.ground_all.specs.Grounding.{is_fluent, atoms_of, fluent_atoms, names_of_schema, instances}
+pub use Rattle.ground_all.specs.Grounding.{is_fluent, is_watched, atoms_of, fluent_atoms, watched_atoms}
+pub use Rattle.ground_all.specs.Grounding.{TaskAtom, task_atoms, task_atom_text, names_of_schema, instances}
 pub use Rattle.ground_all.specs.Grounding.{object_of, ground_literal, positives, negatives, instance_of}
-pub use Rattle.ground_all.specs.Grounding.{actions_of, world_of, ground_task, PlainGrounded}
+pub use Rattle.ground_all.specs.Grounding.{is_one_twice, is_true_at_start, actions_of, world_of, ground_world}
+pub use Rattle.ground_all.specs.Grounding.{ground_task, PlainGrounded}
 -- Texts that tell an item of a list from all others.
 pub use Rattle.ground_all.specs.Names.{IsTextAt}

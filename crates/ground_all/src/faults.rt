@@ -5,7 +5,7 @@ use thiserror::Error;
 /// Why a typed domain and problem are not grounded.
 #[derive(Clone, Copy, Debug, PartialEq, Eq, Error)]
 pub enum GroundFault {
-    /// How many fluent atoms there are, where that is more than 3,072.
+    /// How many fluent atoms and complements there are, where that is more than 3,072.
     #[error("{0} atoms, limit 3072")]
     TooManyAtoms(u128),
     /// How many typed instances the actions have, where that is more than 1,048,576.

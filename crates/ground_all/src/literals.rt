@@ -1,7 +1,7 @@
 ghost use Rattle.std.specs.Prelude.{◌≡◌, not, ◌&&◌, length, All, IfOk};
-ghost use Rattle.strips_model.specs.Worlds.{has_atom, numbers_of, is_blocked};
+ghost use Rattle.strips_model.specs.Worlds.{has_atom, numbers_of, is_blocked, is_barred};
 ghost use Rattle.type_check.specs.Values.{is_same_atom};
-ghost use Rattle.ground_all.specs.Grounding.{fluent_atoms, object_of, ground_literal, positives, negatives};
+ghost use Rattle.ground_all.specs.Grounding.{fluent_atoms, object_of, ground_literal, positives, negatives, is_true_at_start};
 ghost use Rattle.ground_all.specs.Sound.{IsTermOf, IsLiteralOf};
 ghost use Rattle.ground_all.specs.Found.{start_world};
 
@@ -103,10 +103,25 @@ pub(crate) fn is_blocked(atoms: &Atoms<'_>, list: &[GroundAtom]) -> bool
     list.iter().any(|atom| is_false(atoms, atom))
 }
 
+/// Whether a static one among the atoms is true at the start.
+pub(crate) fn is_barred(atoms: &Atoms<'_>, list: &[GroundAtom]) -> bool
+    ensures { result ≡ is_barred is_same_atom (start_world atoms.now) list.now }
+{
+    list.iter().any(|atom| is_true(atoms, atom))
+}
+
 /// Whether the atom is static, and false at the start.
 fn is_false(atoms: &Atoms<'_>, atom: &GroundAtom) -> bool
     ensures { result ≡ (not (has_atom is_same_atom (fluent_atoms atoms.now) atom.now)
-        && not (has_atom is_same_atom atoms.now.init atom.now)) }
+        && not (is_true_at_start atoms.now atom.now)) }
 {
     matches!(atoms.find(atom), Standing::False)
+}
+
+/// Whether the atom is static, and true at the start.
+fn is_true(atoms: &Atoms<'_>, atom: &GroundAtom) -> bool
+    ensures { result ≡ (not (has_atom is_same_atom (fluent_atoms atoms.now) atom.now)
+        && is_true_at_start atoms.now atom.now) }
+{
+    matches!(atoms.find(atom), Standing::True)
 }

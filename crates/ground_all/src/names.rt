@@ -11,7 +11,8 @@ pub(crate) fn bracketed_len(typed: &Typed, name: &str, objects: &[u32]) -> usize
     requires short { length name.now ≤ 2 ^ 20 }
     requires few { length objects.now ≤ 8 }
     requires objects { All (λ k. k < length typed.now.objects) objects.now }
-    ensures { result ≡ length (bracketed typed.now name.now objects.now) }
+    ensures len { result ≡ length (bracketed typed.now name.now objects.now) }
+    ensures short { result ≤ 2 ^ 24 }
 {
     let mut len = name.len() + 2;
     for object in objects {
@@ -45,7 +46,7 @@ fn object_name(typed: &Typed, object: u32) -> &str
 }
 
 /// Writes a piece from this place on, and answers the place behind it.
-fn write(piece: &[u8], into: &mut [u8], at: usize) -> usize
+pub(crate) fn write(piece: &[u8], into: &mut [u8], at: usize) -> usize
     requires { at + length piece.now ≤ length into.old }
     ensures place { result ≡ at + length piece.now }
     ensures text { into.new ≡ take at into.old ++ piece.now ++ drop result into.old }

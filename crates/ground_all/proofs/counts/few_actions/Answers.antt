@@ -1,12 +1,11 @@
-use Rattle.std.proofs.Common.{◌<◌, ◌^◌, sym, ◌∙◌, subst, arith}
+use Rattle.std.proofs.Common.{ap, ◌∙◌, arith}
 use Rattle.std.specs.List.{sum}
 use Rattle.ground_all.proofs.BlockLaws.{few_all_names}
 use Rattle.ground_all.proofs.GroundCounts.{actions_counted}
 use Rattle.ground_all.proofs.counts.few_actions.Goals as goal
 
 pub total-actions-requires : goal.total-actions-requires
-total-actions-requires c =
-    subst (λ counts. sum counts < 2 ^ 128) (sym (c.deref.ensures.value ∙ c.in_ok-counts.ensures)) (few_all_names c.args.typed.now c.requires.sound)
+total-actions-requires c = omega (arith, few_all_names c.args.typed.now c.requires.sound, ap sum (c.deref.ensures.value ∙ c.in_ok-counts.ensures))
 
 pub returns-then-actions-gt-MOST_ACTIONS-clause-fault : goal.returns-then-actions-gt-MOST_ACTIONS-clause-fault
 returns-then-actions-gt-MOST_ACTIONS-clause-fault c =

@@ -11,7 +11,10 @@ loop-object-preserved c =
     let len = ap length c.object_name.ensures in
     record { so_far = omega (arith, more, len); short = omega (arith, more, short) }
 
-pub returns : goal.returns
-returns c =
+pub returns-clause-len : goal.returns-clause-len
+returns-clause-len c =
     let all = ap (λ objects. length (words c.args.typed.now objects)) (take_all c.loop-object.object-index c.args.objects.now c.loop-object-test.false) in
     omega (arith, all, length-bracketed c.args.typed.now c.args.name.now c.args.objects.now)
+
+pub returns-clause-short : goal.returns-clause-short
+returns-clause-short c = omega (arith, c.loop-object.invariant.so_far, c.loop-object.invariant.short, c.loop-object.auto.object-index-end, c.requires.short, c.requires.few)

@@ -1,5 +1,6 @@
 use Rattle.std.proofs.Common.{◌++◌, [], length, codes, refl, ap, ◌∙◌, subst, arith, length-append}
-use Rattle.ground_all.proofs.TextLaws.{front, length-bracketed, front_room, front_none, front_more, front_all, IsWritten, none_written, written, written_all}
+use Rattle.ground_all.specs.Names.{IsWritten}
+use Rattle.ground_all.proofs.TextLaws.{front, length-bracketed, front_room, front_none, front_more, front_all, none_written, written, written_all}
 use Rattle.ground_all.proofs.names.write_bracketed.Goals as goal
 
 pub write-at-requires : goal.write-at-requires
@@ -60,4 +61,4 @@ returns-clause-len c =
 pub returns-clause-text : goal.returns-clause-text
 returns-clause-text c =
     (written_all c.args.typed.now c.args.name.now c.args.objects.now c.args.into.now c.loop-object.into c.write.new.into c.loop-object.object-index c.loop-object.at c.write.result
-    c.loop-object.invariant c.loop-object-test.false c.write.ensures.place c.write.ensures.text).text
+    c.loop-object.invariant c.loop-object-test.false c.write.ensures.place c.write.ensures.text).whole

@@ -1,4 +1,5 @@
-use Rattle.ground_all.proofs.TextLaws.{front, IsWritten}
+use Rattle.ground_all.proofs.TextLaws.{front}
+use Rattle.ground_all.specs.Names.{IsWritten}
 use Rattle.ground_all.proofs.names.write_bracketed.Given as goal
 
 abbrev pub invariant-loop-object : goal.invariant-loop-object

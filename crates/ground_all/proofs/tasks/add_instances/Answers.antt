@@ -1,17 +1,14 @@
-use Rattle.std.proofs.Common.{◌≡◌, ℕ, List, length, map, drop, sym, ◌∙◌, ap, arith, slice_get}
+use Rattle.std.proofs.Common.{◌≡◌, length, map, drop, sym, ◌∙◌, ap, arith, slice_get}
 use Rattle.std.proofs.lemmas.List.{take_at}
-use Rattle.strips_model.specs.Worlds.{action_of}
-use Rattle.type_check.specs.Values.{is_same_atom}
 use Rattle.ground_all.specs.Tuples.{tuples}
-use Rattle.ground_all.specs.Grounding.{instance_of}
-use Rattle.ground_all.specs.Found.{start_world}
+use Rattle.ground_all.specs.Found.{schema_action}
 use Rattle.ground_all.proofs.TaskLaws.{behind_next}
 use Rattle.ground_all.proofs.tasks.add_instances.Goals as goal
 
 pub loop-number-preserved : goal.loop-number-preserved
 loop-number-preserved c =
     let schema = c.args.schema.now in
-    let act = λ (objects : List ℕ). action_of is_same_atom (start_world c.args.atoms.now) (instance_of schema objects) in
+    let act = schema_action c.args.atoms.now schema in
     let front = c.args.actions.now.items in
     let number = c.loop-number.number in
     let old = c.loop-number.objects in

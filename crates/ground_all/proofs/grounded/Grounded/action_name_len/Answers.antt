@@ -35,7 +35,7 @@ returns c name there =
     let same = ap (λ (g : PlainGrounded). g.typed) c.self.view_is in
     let named : c.as_str.result.now ≡ s.name.text =
     c.as_str.ensures.value ∙ ap (λ i. i.name.text) c.schema-inside.view_is ∙ ap (λ (s : PlainTypedSchema). s.name.text) c.schema.view_is in
-    c.bracketed_len.ensures
+    c.bracketed_len.ensures.len
     ∙ ap (λ t. length (bracketed t c.as_str.result.now objects)) same
     ∙ ap (λ name. length (bracketed c.args.self.now.typed name objects)) named
     ∙ ap length (text_of_action c.args.self.now.typed c.args.a.0 s objects (subst IsSound same (sound c.self.inside.typed.now c.self.invariant.typed)) c.action_at-count.ensures.action name there)

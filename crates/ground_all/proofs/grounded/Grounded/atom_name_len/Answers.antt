@@ -1,41 +1,26 @@
-use Rattle.std.proofs.Common.{◌≡◌, ◌<◌, ◌≤◌, ap, sym, ◌∙◌, subst, length, take}
-use Rattle.std.specs.List.{All}
-use Rattle.type_check.specs.Values.{PlainTypedPredicate}
-use Rattle.type_check.specs.Ground.{bracketed}
-use Rattle.ground_all.specs.Grounding.{PlainGrounded}
-use Rattle.ground_all.specs.Sound.{IsSound}
-use Rattle.ground_all.proofs.SoundLaws.{sound}
-use Rattle.ground_all.proofs.NameLaws.{atom_short, atom_known, text_of_atom}
+use Rattle.std.proofs.Common.{true, false, length, codes, sym, ap, ◌∙◌, arith, Some}
+use Rattle.std.proofs.lemmas.List.{length-append}
+use Rattle.std.proofs.lemmas.Option.{slice_get_within, same_Some}
+use Rattle.type_check.specs.Ground.{atom_text}
+use Rattle.ground_all.specs.Grounding.{fluent_atoms, task_atom_text}
+use Rattle.ground_all.specs.Found.{task_atom}
 use Rattle.ground_all.proofs.grounded.Grounded.atom_name_len.Goals as goal
 
-pub bracketed_len-requires-clause-sound : goal.bracketed_len-requires-clause-sound
-bracketed_len-requires-clause-sound c = sound c.self.inside.typed.now c.self.invariant.typed
+pub fluent_name_len-len-requires : goal.fluent_name_len-len-requires
+fluent_name_len-len-requires c =
+    let base = c.base_of-is_complement.ensures.base in
+    slice_get_within (fluent_atoms c.args.self.now.typed) c.base_of-is_complement.result.0.0 base.atom base.there
 
-pub bracketed_len-requires-clause-short : goal.bracketed_len-requires-clause-short
-bracketed_len-requires-clause-short c =
-    let q = c.atom_at-count.result.0.now in
-    let same = ap (λ (g : PlainGrounded). g.typed) c.self.view_is in
-    let named : c.as_str.result.now ≡ q.name.text =
-    c.as_str.ensures.value ∙ ap (λ i. i.name.text) c.predicate-inside.view_is ∙ ap (λ (q : PlainTypedPredicate). q.name.text) c.predicate.view_is in
-    subst (λ text. length text ≤ 1048576) (sym named)
-    (atom_short c.args.self.now.typed c.args.a.0 q (take c.atom_at-count.result.1 c.atom_at-count.new.objects)
-    (subst IsSound same (sound c.self.inside.typed.now c.self.invariant.typed)) c.atom_at-count.ensures.atom)
+pub returns-then-is_complement : goal.returns-then-is_complement
+returns-then-is_complement c atom there =
+    let t = c.args.self.now.typed in
+    let base = c.base_of-is_complement.ensures.base in
+    let same = same_Some (task_atom true base.atom) atom (sym (base.is ∙ ap (λ b. Some (task_atom b base.atom)) c.if-is_complement.true) ∙ there) in
+    omega (arith, c.fluent_name_len-len.ensures.text base.atom base.there, length-append (atom_text t base.atom) (codes ")"), ap (λ x. length (task_atom_text t x)) same)
 
-pub bracketed_len-requires-clause-objects : goal.bracketed_len-requires-clause-objects
-bracketed_len-requires-clause-objects c =
-    let objects = take c.atom_at-count.result.1 c.atom_at-count.new.objects in
-    let same = ap (λ (g : PlainGrounded). g.typed) c.self.view_is in
-    subst (λ t. All (λ k. k < length t.objects) objects) (sym same)
-    (atom_known c.args.self.now.typed c.args.a.0 c.atom_at-count.result.0.now objects (subst IsSound same (sound c.self.inside.typed.now c.self.invariant.typed)) c.atom_at-count.ensures.atom)
-
-pub returns : goal.returns
-returns c atom there =
-    let q = c.atom_at-count.result.0.now in
-    let objects = take c.atom_at-count.result.1 c.atom_at-count.new.objects in
-    let same = ap (λ (g : PlainGrounded). g.typed) c.self.view_is in
-    let named : c.as_str.result.now ≡ q.name.text =
-    c.as_str.ensures.value ∙ ap (λ i. i.name.text) c.predicate-inside.view_is ∙ ap (λ (q : PlainTypedPredicate). q.name.text) c.predicate.view_is in
-    c.bracketed_len.ensures
-    ∙ ap (λ t. length (bracketed t c.as_str.result.now objects)) same
-    ∙ ap (λ name. length (bracketed c.args.self.now.typed name objects)) named
-    ∙ ap length (text_of_atom c.args.self.now.typed c.args.a.0 q objects (subst IsSound same (sound c.self.inside.typed.now c.self.invariant.typed)) c.atom_at-count.ensures.atom atom there)
+pub returns-else-is_complement : goal.returns-else-is_complement
+returns-else-is_complement c atom there =
+    let t = c.args.self.now.typed in
+    let base = c.base_of-is_complement.ensures.base in
+    let same = same_Some (task_atom false base.atom) atom (sym (base.is ∙ ap (λ b. Some (task_atom b base.atom)) c.if-is_complement.false) ∙ there) in
+    c.fluent_name_len-len.ensures.text base.atom base.there ∙ ap (λ x. length (task_atom_text t x)) same
