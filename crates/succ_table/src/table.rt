@@ -53,6 +53,13 @@ impl<'t> SuccTable<'t> {
         })
     }
 
+    /// The task whose table it is.
+    pub fn task(&self) -> &'t Task
+        ensures { result.now ≡ self.now }
+    {
+        self.task
+    }
+
     /// The actions that apply in the state and are not removed, rising.
     pub fn applicable<const W: usize>(
         &self,
