@@ -72,7 +72,7 @@ pub struct BestBounds<'r, const W: usize> {
 }
 
 impl<'r, const W: usize> Model for BestBounds<'r, W> {
-    ghost use Rattle.std.specs.Prelude.{List};
+    ghost use Rattle.std.specs.Prelude.{List, ◌≤◌};
     ghost use Rattle.cost_certificate.specs.Rows.{PlainRow};
     ghost use Rattle.cost_certificate.specs.Seen.{AreBest};
 
@@ -80,7 +80,8 @@ impl<'r, const W: usize> Model for BestBounds<'r, W> {
 
     ghost view = { λ b. b.rows.now };
 
-    ghost invariant = { λ b. AreBest b.rows.now b.best.entries };
+    // The width is what it takes to let the states go.
+    ghost invariant = { λ b. AreBest b.rows.now b.best.entries × (W ≤ 64) };
 }
 
 impl<'r, const W: usize> BestBounds<'r, W> {
