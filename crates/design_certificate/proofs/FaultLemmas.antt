@@ -1,22 +1,18 @@
 -- A tree has at most one first fault, and a valid one has none, where this is so of tables.
-use Rattle.std.proofs.Common.{◌≡◌, ℕ, ◌≤◌, List, [], ◌∷◌, ◌++◌, length, sym, ◌∙◌, inl, inr, Option}
+use Rattle.std.proofs.Common.{◌≡◌, ℕ, ◌≤◌, List, [], ◌∷◌, ◌++◌, length, sym, ◌∙◌, ap, inl, inr, Option}
 use Rattle.grd_base.specs.declared.ids.ActionId.{ActionId}
 use Rattle.grd_base.specs.declared.ids.GoalId.{GoalId}
 use Rattle.strips_model.specs.Values.{PlainTask, PlainWitness}
 use Rattle.cost_certificate.specs.Rows.{PlainRow}
 use Rattle.cost_certificate.specs.Tables.{IsValidTable}
-use Rattle.cost_certificate.specs.Faults.{IsFaultOf}
+use Rattle.cost_certificate.specs.declared.kinds.TableFault.{TableFault}
 use Rattle.cost_certificate.specs.declared.kinds.CheckKind.{CheckKind}
 use Rattle.cost_certificate.specs.declared.kinds.CheckKind.TheVariants.{BadNumber}
 use Rattle.design_certificate.specs.Live.{HasNumber}
 use Rattle.design_certificate.specs.Witnesses.{IsShownWitness}
-use Rattle.design_certificate.specs.Trees.{PlainNamed, PlainLeafTable, own, use_named, PlainNode, PlainNodes, leaf, branch, no_nodes, nodes, with_id, choices, RefuteCost, IsValidLeaf, IsValidNode, AreValidChildren}
-use Rattle.design_certificate.specs.TreeFaults.{FailsOr, FailsBranch, FailsOwn, FailsTable, FailsNode, FailsChildren}
-
--- a valid table has no fault, and each other one has one kind of fault
-abbrev pub TablesFailOnce : Type 0
-TablesFailOnce = (t : PlainTask) (g : GoalId) (removed : List ActionId) (rows : List PlainRow) (kind : CheckKind) (row set : ℕ) → IsFaultOf t g removed rows kind row set
-    → (IsValidTable t g removed rows → ⊥) × ((other : CheckKind) (elsewhere at : ℕ) → IsFaultOf t g removed rows other elsewhere at → kind ≡ other)
+use Rattle.design_certificate.specs.Trees.{PlainNamed, PlainLeafTable, own, use_named, PlainNode, PlainNodes, leaf, branch, no_nodes, nodes, with_id, choices, RefuteCost, IsValidLeaf, IsValidNode, AreValidChildren, IsValidTree}
+use Rattle.design_certificate.proofs.ExactLemmas.{ValidTablesPass, TablesFailOnce, fault_at}
+use Rattle.design_certificate.specs.TreeFaults.{FailsOr, FailsBranch, FailsOwn, FailsTable, FailsNode, FailsChildren, IsTreeFault}
 
 -- where a condition holds, what is behind it fails
 behind_fails : (kind its : CheckKind) (P R : Type 0) → FailsOr kind its P R → P → R
@@ -30,9 +26,9 @@ or_once kind other its P R S (inl out) (inr also) on = absurd (out.1 also.0)
 or_once kind other its P R S (inr here) (inl also) on = absurd (also.1 here.0)
 or_once kind other its P R S (inr here) (inr also) on = on here.1 also.1
 
-module _ (once : TablesFailOnce) (t : PlainTask) (costs : List (Option ℕ)) (named : List PlainNamed) where
+module _ (passes : ValidTablesPass) (once : TablesFailOnce) (t : PlainTask) (costs : List (Option ℕ)) (named : List PlainNamed) where
   no_own : (kind : CheckKind) (removed : List ActionId) (g : GoalId) (rows : List PlainRow) → FailsOwn t costs kind removed g rows → IsValidTable t g removed rows × RefuteCost t costs g rows → ⊥
-  no_own kind removed g rows (inl (row, set, fails)) valid = (once t g removed rows kind row set fails).0 valid.0
+  no_own kind removed g rows (inl (row, set, fails)) valid = passes t g removed rows valid.0 (fault_at kind row set) fails
   no_own kind removed g rows (inr (is, fails)) valid = behind_fails kind _ (RefuteCost t costs g rows) ⊥ fails valid.1
 
   no_table : (kind : CheckKind) (removed : List ActionId) (g : GoalId) (table : PlainLeafTable) → FailsTable t costs named kind removed g table → IsValidLeaf t costs named removed g table → ⊥
@@ -57,9 +53,9 @@ module _ (once : TablesFailOnce) (t : PlainTask) (costs : List (Option ℕ)) (na
       behind_fails kind _ _ _ (behind_fails kind _ _ _ first (shown.second.0, shown.second_begins)) shown.second.1
 
   own_once : (kind other : CheckKind) (removed : List ActionId) (g : GoalId) (rows : List PlainRow) → FailsOwn t costs kind removed g rows → FailsOwn t costs other removed g rows → kind ≡ other
-  own_once kind other removed g rows (inl (row, set, fails)) (inl (elsewhere, at, also)) = (once t g removed rows kind row set fails).1 other elsewhere at also
-  own_once kind other removed g rows (inl (row, set, fails)) (inr (valid, also)) = absurd ((once t g removed rows kind row set fails).0 valid)
-  own_once kind other removed g rows (inr (valid, fails)) (inl (elsewhere, at, also)) = absurd ((once t g removed rows other elsewhere at also).0 valid)
+  own_once kind other removed g rows (inl (row, set, fails)) (inl (elsewhere, at, also)) = ap (λ (f : TableFault). f.kind) (once t g removed rows (fault_at kind row set) (fault_at other elsewhere at) fails also)
+  own_once kind other removed g rows (inl (row, set, fails)) (inr (valid, also)) = absurd (passes t g removed rows valid (fault_at kind row set) fails)
+  own_once kind other removed g rows (inr (valid, fails)) (inl (elsewhere, at, also)) = absurd (passes t g removed rows valid (fault_at other elsewhere at) also)
   own_once kind other removed g rows (inr (valid, fails)) (inr (still, also)) = or_once kind other _ _ ⊥ ⊥ fails also (λ none _. absurd none)
 
   table_once : (kind other : CheckKind) (removed : List ActionId) (g : GoalId) (table : PlainLeafTable) → FailsTable t costs named kind removed g table → FailsTable t costs named other removed g table → kind ≡ other
@@ -69,7 +65,7 @@ module _ (once : TablesFailOnce) (t : PlainTask) (costs : List (Option ℕ)) (na
 
   module _ (m len : ℕ) where
     mutual
-      pub no_node : (kind : CheckKind) (n : PlainNode) (removed kept : List ActionId) → FailsNode t costs named m len kind removed kept n → IsValidNode t costs named m len removed kept n → ⊥
+      no_node : (kind : CheckKind) (n : PlainNode) (removed kept : List ActionId) → FailsNode t costs named m len kind removed kept n → IsValidNode t costs named m len removed kept n → ⊥
       no_node kind (leaf g table) removed kept fails valid = no_leaf kind removed g table fails valid
       no_node kind (branch w children) removed kept fails valid =
           no_children kind children removed kept (choices m removed kept w) (behind_branch kind len removed w _ fails valid.0 valid.1) valid.2
@@ -83,7 +79,7 @@ module _ (once : TablesFailOnce) (t : PlainTask) (costs : List (Option ℕ)) (na
       no_children kind (nodes x xs) removed kept (a ∷ list) (inr later) valid = no_children kind xs removed (kept ++ a ∷ []) list later.1 valid.1
 
     mutual
-      pub node_once : (n : PlainNode) (kind other : CheckKind) (removed kept : List ActionId) → FailsNode t costs named m len kind removed kept n → FailsNode t costs named m len other removed kept n → kind ≡ other
+      node_once : (n : PlainNode) (kind other : CheckKind) (removed kept : List ActionId) → FailsNode t costs named m len kind removed kept n → FailsNode t costs named m len other removed kept n → kind ≡ other
       node_once (leaf g table) kind other removed kept fails also = or_once kind other _ _ _ _ fails also (λ here there. table_once kind other removed g table here there)
       node_once (branch w children) kind other removed kept fails also =
           or_once kind other _ _ _ _ fails also (λ f h. or_once kind other _ _ _ _ f h (λ f h. or_once kind other _ _ _ _ f h (λ f h. or_once kind other _ _ _ _ f h
@@ -99,3 +95,10 @@ module _ (once : TablesFailOnce) (t : PlainTask) (costs : List (Option ℕ)) (na
       children_once (nodes x xs) kind other removed kept (a ∷ list) (inl here) (inr later) = absurd (no_node kind x (with_id removed a) kept here later.0)
       children_once (nodes x xs) kind other removed kept (a ∷ list) (inr later) (inl there) = absurd (no_node other x (with_id removed a) kept there later.0)
       children_once (nodes x xs) kind other removed kept (a ∷ list) (inr later) (inr behind) = children_once xs kind other removed (kept ++ a ∷ []) list later.1 behind.1
+
+    -- from no removed and no kept actions
+    pub tree_passes : (n : PlainNode) → IsValidTree t costs named m len n → (kind : CheckKind) → IsTreeFault t costs named m len kind n → ⊥
+    tree_passes n valid kind fails = no_node kind n [] [] fails valid
+
+    pub tree_once : (n : PlainNode) (kind other : CheckKind) → IsTreeFault t costs named m len kind n → IsTreeFault t costs named m len other n → kind ≡ other
+    tree_once n kind other fails also = node_once n kind other [] [] fails also

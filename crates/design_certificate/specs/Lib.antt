@@ -5,6 +5,9 @@ pub mod Live
 pub mod Trees
 pub mod Nodes
 pub mod Shown
+pub mod Parts
 pub mod Ranges
 pub mod TreeFaults
 pub mod LiveFaults
+pub mod Index
+pub mod Followers

@@ -8,6 +8,7 @@ use Rattle.cost_certificate.specs.declared.kinds.CheckKind.{CheckKind}
 use Rattle.cost_certificate.specs.declared.kinds.CheckKind.TheVariants.{BadLine, BadNumber, LiveSuccessor, LiveTooDeep, ClaimMissing}
 use Rattle.cost_certificate.specs.Tables.{IsValidTable}
 use Rattle.cost_certificate.specs.Faults.{IsFirstBad, IsFaultOf}
+use Rattle.design_certificate.specs.declared.live.LiveFault.{LiveFault}
 use Rattle.design_certificate.specs.Live.{PlainLiveRow, PlainLiveRows, GoalTable, given_from, HasNumber, IsFollowed, Begins}
 
 module _ (t : PlainTask) (costs : List (Option ℕ)) (removed : List ActionId) (len : ℕ) (live : PlainLiveRows) where
@@ -50,5 +51,9 @@ module _ (t : PlainTask) (costs : List (Option ℕ)) (removed : List ActionId) (
         ⊎ (All IsGoalTable live.tables × NumbersFail)
 
     -- the kind and the place of the first fault
-    abbrev pub IsLiveFault : Type 0
-    IsLiveFault = ((kind ≡ BadLine) × (row ≡ 0) × (HaveGoals → ⊥)) ⊎ (HaveGoals × TablesFail)
+    abbrev pub FailsLive : Type 0
+    FailsLive = ((kind ≡ BadLine) × (row ≡ 0) × (HaveGoals → ⊥)) ⊎ (HaveGoals × TablesFail)
+
+  -- the fault is the first of the live rows
+  abbrev pub IsLiveFault : LiveFault → Type 0
+  IsLiveFault fault = FailsLive fault.kind fault.row

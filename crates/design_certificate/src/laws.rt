@@ -10,6 +10,7 @@ ghost use Rattle.design_certificate.specs.Designs.{AreCosts, Gives, AreAmong, Ar
 ghost use Rattle.design_certificate.specs.Witnesses.{IsShownWitness};
 ghost use Rattle.design_certificate.specs.Live.{PlainLiveRows, BeginsShort, IsValidLive};
 ghost use Rattle.design_certificate.specs.Shown.{AreShown, ShowsWcd, ShowsDesign};
+ghost use Rattle.design_certificate.specs.Parts.{PlainDesign, IsShownDesign};
 ghost use Rattle.design_certificate.specs.Trees.{PlainNamed, PlainNode, IsValidNamed, IsValidNode, IsValidTree};
 
 use cost_certificate::rows_refute;
@@ -96,6 +97,9 @@ pub fn parts_show()
     ensures design { (t : PlainTask) (costs : List (Option ℕ)) (named : List PlainNamed) (budget : ℕ) (removed : List ActionId) (w : ℕ)
         → AreCosts t [] costs → All (IsValidNamed t costs) named → ShowsDesign t costs named budget removed w
         → IsBest t budget removed × IsWcd t removed (Some w) }
+    ensures part { (t : PlainTask) (costs : List (Option ℕ)) (whole : Option (PlainWitness × PlainLiveRows)) (budget : ℕ) (d : PlainDesign) (w : Option ℕ)
+        → AreShown t costs → ShowsWcd t costs [] whole → IsShownDesign t costs budget whole d w
+        → IsBest t budget d.removed × IsWcd t d.removed w }
 {
     rows_refute();
 }

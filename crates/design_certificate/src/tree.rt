@@ -1,4 +1,5 @@
-ghost use Rattle.std.specs.Prelude.{◌≡◌, ◌<◌, ◌≤◌, [], length, All, IfOk, IfSome, IfNone, map, take, drop};
+ghost use Rattle.std.specs.Prelude.{◌≡◌, ◌⊎◌, ◌<◌, ◌≤◌, [], length, All, IsErr, IfOk, IfSome, IfNone, map, take, drop};
+ghost use Rattle.cost_certificate.specs.declared.kinds.CheckKind.{CheckKind};
 ghost use Rattle.design_certificate.specs.Trees.{IsValidNode, IsValidTree, AreValidChildren};
 ghost use Rattle.design_certificate.specs.Nodes.{plain_node, children_of};
 ghost use Rattle.design_certificate.specs.Ranges.{IsNamedOver, IsNodeOver, AreNodesOver};
@@ -8,7 +9,7 @@ use crate::branch::fault_of_branch;
 use crate::choices::{with_action, with_choices};
 use crate::leaf::fault_of_leaf;
 use crate::node::{NamedTable, Node};
-use cost_certificate::CheckKind;
+use cost_certificate::{CheckKind, tables_fail_once};
 use grd_base::{ActionId, ActionSet, OutOfMemory};
 use std::alloc::Global;
 use strips_model::Task;
@@ -102,8 +103,8 @@ fn fault_of_node(
     }
 }
 
-/// The first fault of a tree, or none where it is valid.
-pub fn valid_tree(
+/// The first fault of a tree.
+fn fault_of_tree(
     alloc: Global,
     task: &Task,
     costs: &[Option<u32>],
@@ -122,4 +123,26 @@ pub fn valid_tree(
     fault_of_node(
         alloc, task, costs, named, members, least, &nothing, &none, node,
     )
+}
+
+/// The first fault of a tree, or none where it is valid.
+pub fn valid_tree(
+    alloc: Global,
+    task: &Task,
+    costs: &[Option<u32>],
+    named: &[NamedTable],
+    members: u32,
+    least: u32,
+    node: &Node,
+) -> Result<Option<CheckKind>, OutOfMemory>
+    requires named { All (IsNamedOver task.now) named.now }
+    requires node { IsNodeOver task.now (plain_node node.now) }
+    ensures valid { IfOk result (λ found. IfNone found (IsValidTree task.now costs.now named.now members least (plain_node node.now))) }
+    ensures fault { IfOk result (λ found. IfSome found (λ kind. IsTreeFault task.now costs.now named.now members least kind (plain_node node.now))) }
+    ensures valid_exactly { IsValidTree task.now costs.now named.now members least (plain_node node.now) → (result ≡ Ok None) ⊎ IsErr result }
+    ensures fault_exactly { (kind : CheckKind) → IsTreeFault task.now costs.now named.now members least kind (plain_node node.now)
+        → (result ≡ Ok (Some kind)) ⊎ IsErr result }
+{
+    tables_fail_once();
+    fault_of_tree(alloc, task, costs, named, members, least, node)
 }
