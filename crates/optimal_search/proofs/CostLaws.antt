@@ -16,6 +16,7 @@ use Rattle.grd_base.specs.Counts.{AllDistinct}
 use Rattle.grd_base.proofs.SameLemmas.{same_by_members}
 use Rattle.strips_model.specs.Values.{PlainTask, IsTask}
 use Rattle.strips_model.specs.Plans.{State, step_without, after, start_of, goal_holds}
+use Rattle.strips_model.specs.Common.{IsRight}
 use Rattle.strips_model.specs.Reached.{IsNear}
 use Rattle.strips_model.proofs.MoveLemmas.{step_by}
 use Rattle.search_core.specs.declared.rows.KeptRow.{KeptRow}
@@ -162,6 +163,17 @@ module _ {W : ℕ} (t : PlainTask) (g : GoalId) (is : IsTask t) (wide : t.atoms 
       let end = some_and (after t [] (start_of t) plan.items) (λ u. IsTrue (goal_holds t g u)) plans in
       in_range t [] plan.items (start_of t) end.0 end.1
 
+  -- it is an optimal one, or there is none
+  pub plan_right : (plan : Vec ActionId Global) (rows : Vec (KeptRow (Bits W) (List (List ActionId))) Global) → IsLeastPlan t g [] limit (answer.Found plan rows) → IsRight t g [] (Some plan.items)
+  plan_right plan rows found =
+      let state = first_state (answer.Found plan rows) found in (
+        least_plan t g [] is wide found.first state found.begins limit plan.items found.right,
+        least_cost t g [] is wide found.first state found.begins limit plan.items found.right,
+      )
+
+  pub no_plan_right : (rows : Vec (KeptRow (Bits W) (List (List ActionId))) Global) → IsLeastPlan t g [] limit (answer.Never rows) → IsRight t g [] None
+  no_plan_right rows found = never_cost t g [] is wide found.first (first_state (answer.Never rows) found) found.begins found.right
+
   -- it is right, with the table of its rows
   pub path_found : (plan : Vec ActionId Global) (rows : Vec (KeptRow (Bits W) (List (List ActionId))) Global) → IsLeastPlan t g [] limit (answer.Found plan rows)
       → IsRightCost t g limit (record { cost = Some (length plan.items); plan = plan.items; table = table_for t [] plan.items rows.items })
@@ -180,4 +192,12 @@ pub right_push : (t : PlainTask) (limit : ℕ) (xs ys : List PlainCost) (y : Pla
 right_push t limit xs ys y i more each here right k x at = elim (at_push xs y k x (ap (λ zs. slice_get zs k) (sym more) ∙ at)) [
   | inl old ↦ right k x old
   | inr new ↦ subst (λ n. IsRightCost t (record { 0 = n }) limit x) (sym (new.0 ∙ each)) (subst (λ z. IsRightCost t (record { 0 = i }) limit z) new.1 here)
+]
+
+-- and one plan more
+pub plan_push : (t : PlainTask) (xs ys : List (Option (List ActionId))) (y : Option (List ActionId)) (i : ℕ) → ys ≡ xs ++ y ∷ [] → length xs ≡ i → IsRight t (record { 0 = i }) [] y
+    → ((k : ℕ) (x : Option (List ActionId)) → slice_get xs k ≡ Some x → IsRight t (record { 0 = k }) [] x) → (k : ℕ) (x : Option (List ActionId)) → slice_get ys k ≡ Some x → IsRight t (record { 0 = k }) [] x
+plan_push t xs ys y i more each here right k x at = elim (at_push xs y k x (ap (λ zs. slice_get zs k) (sym more) ∙ at)) [
+  | inl old ↦ right k x old
+  | inr new ↦ subst (λ n. IsRight t (record { 0 = n }) [] x) (sym (new.0 ∙ each)) (subst (λ z. IsRight t (record { 0 = i }) [] z) new.1 here)
 ]

@@ -11,6 +11,8 @@ use Rattle.strips_model.specs.Plans.{step, goal_holds, IsOver}
 use Rattle.strips_model.specs.Moves.{allowed_of}
 use Rattle.strips_model.specs.Levels.{level_at}
 use Rattle.cut_bounds.specs.CutFloors.{PlainCutFloor, IsCutFloorOf}
+use Rattle.optimal_search.specs.declared.actions.TaskActions.{TaskActions}
+use Rattle.optimal_search.specs.declared.actions.TaskActions.TheVariants.{Own, Lent}
 
 -- a state of the task, as a program holds it
 pub record IsState {W : ℕ} (t : PlainTask) (s : Bits W) : Type 0 where
@@ -38,6 +40,11 @@ pub record PlainSpace : Type 0 where
   pub task : PlainTask
   pub goal : GoalId
   pub removed : List ActionId
+
+-- the task of a table of actions, be it one's own or lent
+abbrev pub task_in : TaskActions → PlainTask
+task_in (Own table) = table
+task_in (Lent table) = table.now
 
 -- what every space keeps: its states hold the atoms of the task, and its table and its floor are those of
 -- the task, the floor for the goal without the removed actions

@@ -16,6 +16,7 @@ use grd_base::{ActionId, ActionSet, Bits, GoalId, Limits, OutOfMemory, by_width,
 use search_core::{KeptRow, LeastAnswer, SearchFault, least};
 use std::alloc::Global;
 use strips_model::{Task, fits, known_task, start};
+use succ_table::SuccTable;
 
 /// How far the goal is from the start of the task, by the space of the two.
 pub(crate) fn least_plan<const W: usize>(
@@ -111,49 +112,49 @@ fn cost_in<const W: usize>(
 /// The cost of a goal, with an optimal plan and a table.
 fn cost_for<const W: usize>(
     alloc: Global,
-    task: &Task,
+    table: &SuccTable,
     goal: GoalId,
     removed: &ActionSet,
     states: u32,
 ) -> Result<CostFound, SearchFault>
     requires width { W ≤ 64 }
-    requires atoms { task.now.atoms ≤ 64 * W }
-    requires goal { goal.0 < length task.now.goals }
+    requires atoms { table.now.atoms ≤ 64 * W }
+    requires goal { goal.0 < length table.now.goals }
     requires removed { removed.now ≡ [] }
     requires states { states ≤ 1000000 }
-    ensures right { IfOk result (IsRightCost task.now goal states) }
-    ensures in_range { IfOk result (λ found. All (λ a. a.0 < length task.now.actions) found.plan) }
-    ensures many { result ≡ Err SearchFault.TooManyStates → MoreThan states (IsNear task.now goal) }
+    ensures right { IfOk result (IsRightCost table.now goal states) }
+    ensures in_range { IfOk result (λ found. All (λ a. a.0 < length table.now.actions) found.plan) }
+    ensures many { result ≡ Err SearchFault.TooManyStates → MoreThan states (IsNear table.now goal) }
 {
-    let space = TaskSpace::<W>::new(alloc, task, goal, removed)?;
+    let space = TaskSpace::<W>::with_table(alloc, table, goal, removed)?;
     cost_in(alloc, &space, states)
 }
 
 /// The same, with the goal in its fault.
 fn cost_of<const W: usize>(
     alloc: Global,
-    task: &Task,
+    table: &SuccTable,
     goal: GoalId,
     removed: &ActionSet,
     states: u32,
 ) -> Result<CostFound, GoalSearchFault>
     requires width { W ≤ 64 }
-    requires atoms { task.now.atoms ≤ 64 * W }
-    requires goal { goal.0 < length task.now.goals }
+    requires atoms { table.now.atoms ≤ 64 * W }
+    requires goal { goal.0 < length table.now.goals }
     requires removed { removed.now ≡ [] }
     requires states { states ≤ 1000000 }
-    ensures right { IfOk result (IsRightCost task.now goal states) }
-    ensures in_range { IfOk result (λ found. All (λ a. a.0 < length task.now.actions) found.plan) }
+    ensures right { IfOk result (IsRightCost table.now goal states) }
+    ensures in_range { IfOk result (λ found. All (λ a. a.0 < length table.now.actions) found.plan) }
     ensures many { (g : GoalId) → result ≡ Err (GoalSearchFault.TooManyStates g)
-        → (g.0 < length task.now.goals) × MoreThan states (IsNear task.now g) }
+        → (g.0 < length table.now.goals) × MoreThan states (IsNear table.now g) }
 {
-    match cost_for::<W>(alloc, task, goal, removed, states) {
+    match cost_for::<W>(alloc, table, goal, removed, states) {
         Ok(found) => Ok(found),
         Err(fault) => Err(GoalSearchFault::of(fault, goal)),
     }
 }
 
-/// What is found of each goal, by states of W words.
+/// What is found of each goal, by states of W words and one table of the task's actions.
 fn all_costs<const W: usize>(
     alloc: Global,
     task: &Task,
@@ -171,9 +172,10 @@ fn all_costs<const W: usize>(
         → (g.0 < length task.now.goals) × MoreThan states (IsNear task.now g) }
 {
     let removed = ActionSet::new(alloc);
+    let table = SuccTable::build(alloc, task)?;
     let mut found = Vec::new(alloc);
     for i in 0..task.goals.len() {
-        found.push(cost_of::<W>(alloc, task, GoalId(i as u32), &removed, states)?)?;
+        found.push(cost_of::<W>(alloc, &table, GoalId(i as u32), &removed, states)?)?;
     }
     Ok(found)
 }

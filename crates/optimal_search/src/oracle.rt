@@ -22,6 +22,7 @@ use search_core::{KeptRow, LeastAnswer, SearchFault, WithinAnswer, within};
 use std::alloc::Global;
 use std::marker::Model;
 use strips_model::{Task, known_task};
+use succ_table::SuccTable;
 
 /// Answers questions about one task, one goal and one set of removed actions, and keeps the bounds that it
 /// proves, each with what shows it: they make a valid table after every call, also after one that was
@@ -73,11 +74,52 @@ impl<'t, const W: usize> Oracle<'t, W> {
         })) }
     {
         let space = TaskSpace::new(alloc, task, goal, removed)?;
-        Ok(Oracle {
+        Ok(Oracle::over(alloc, space, limits.states))
+    }
+
+    /// The same about the task of a table that is lent, so that several oracles can use it.
+    pub fn with_table(
+        alloc: Global,
+        table: &'t SuccTable<'t>,
+        goal: GoalId,
+        removed: &'t ActionSet,
+        limits: Limits,
+    ) -> Result<Oracle<'t, W>, OutOfMemory>
+        requires width { W ≤ 64 }
+        requires atoms { table.now.atoms ≤ 64 * W }
+        requires goal { goal.0 < length table.now.goals }
+        requires limits { (limits.states ≤ 1000000) × (limits.sets ≤ 1000000) }
+        ensures { IfOk result (λ oracle. oracle ≡ (record {
+          task = table.now;
+          goal = goal;
+          removed = removed.now;
+          limit = limits.states;
+          known = [];
+        })) }
+    {
+        let space = TaskSpace::with_table(alloc, table, goal, removed)?;
+        Ok(Oracle::over(alloc, space, limits.states))
+    }
+
+    /// An oracle over a space, which knows nothing.
+    fn over(alloc: Global, space: TaskSpace<'t, W>, limit: u32) -> Oracle<'t, W>
+        requires width { W ≤ 64 }
+        requires atoms { space.task.atoms ≤ 64 * W }
+        requires goal { space.goal.0 < length space.task.goals }
+        requires limit { limit ≤ 1000000 }
+        ensures { result ≡ (record {
+          task = space.entry.task;
+          goal = space.entry.goal;
+          removed = space.entry.removed;
+          limit = limit;
+          known = [];
+        }) }
+    {
+        Oracle {
             space,
-            limit: limits.states,
+            limit,
             kept: Kept::new(alloc),
-        })
+        }
     }
 
     /// The least length of a plan without the removed actions, or none where there is no plan. Each call

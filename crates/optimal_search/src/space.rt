@@ -5,6 +5,7 @@ ghost use Rattle.strips_model.specs.Plans.{IsOver};
 ghost use Rattle.strips_model.specs.Values.{AreAtoms};
 ghost use Rattle.cut_bounds.specs.CutMarks.{IsCutMark, sets_around};
 
+use crate::actions::TaskActions;
 use cut_bounds::{CutFloor, CutMark};
 use grd_base::{ActionId, ActionSet, Bits, Bound, GoalId, OutOfMemory, packed, whole};
 use search_core::{Floor, Space};
@@ -21,18 +22,18 @@ pub struct TaskSpace<'t, const W: usize> {
     task: &'t Task,
     goal: GoalId,
     removed: &'t ActionSet,
-    table: SuccTable<'t>,
+    actions: TaskActions<'t>,
     floor: CutFloor,
 }
 
 impl<'t, const W: usize> Model for TaskSpace<'t, W> {
-    ghost use Rattle.optimal_search.specs.Space.{PlainSpace, IsSpaceOf};
+    ghost use Rattle.optimal_search.specs.Space.{PlainSpace, IsSpaceOf, task_in};
 
     ghost Value = { PlainSpace };
 
     ghost view = { λ space. record { task = space.task.now; goal = space.goal; removed = space.removed.now } };
 
-    ghost invariant = { λ space. IsSpaceOf W space.task.now space.goal space.removed.now space.table space.floor };
+    ghost invariant = { λ space. IsSpaceOf W space.task.now space.goal space.removed.now (task_in space.actions) space.floor };
 }
 
 impl<'t, const W: usize> TaskSpace<'t, W> {
@@ -50,13 +51,38 @@ impl<'t, const W: usize> TaskSpace<'t, W> {
         ensures goal { IfOk result (λ space. space.goal ≡ goal) }
         ensures removed { IfOk result (λ space. space.removed ≡ removed.now) }
     {
-        let table = SuccTable::build(alloc, task)?;
+        let actions = TaskActions::Own(SuccTable::build(alloc, task)?);
         let floor = CutFloor::new(alloc, task, goal, removed)?;
         Ok(TaskSpace {
             task,
             goal,
             removed,
-            table,
+            actions,
+            floor,
+        })
+    }
+
+    /// The space of the task of a table that is lent, with the floor of the goal.
+    pub fn with_table(
+        alloc: Global,
+        table: &'t SuccTable<'t>,
+        goal: GoalId,
+        removed: &'t ActionSet,
+    ) -> Result<TaskSpace<'t, W>, OutOfMemory>
+        requires width { W ≤ 64 }
+        requires atoms { table.now.atoms ≤ 64 * W }
+        requires goal { goal.0 < length table.now.goals }
+        ensures task { IfOk result (λ space. space.task ≡ table.now) }
+        ensures goal { IfOk result (λ space. space.goal ≡ goal) }
+        ensures removed { IfOk result (λ space. space.removed ≡ removed.now) }
+    {
+        let task = table.task();
+        let floor = CutFloor::new(alloc, task, goal, removed)?;
+        Ok(TaskSpace {
+            task,
+            goal,
+            removed,
+            actions: TaskActions::Lent(table),
             floor,
         })
     }
@@ -110,7 +136,7 @@ impl<'t, const W: usize> Space for TaskSpace<'t, W> {
         s: &Bits<W>,
     ) -> Result<Vec<(ActionId, Bits<W>)>, OutOfMemory> {
         packed::<W>();
-        let found = self.table.applicable(alloc, s, self.removed)?;
+        let found = self.actions.applicable(alloc, s, self.removed)?;
         let mut steps = Vec::with_capacity(alloc, found.len())?;
         for a in &found {
             let mut next = *s;

@@ -15,6 +15,7 @@ use optimal_search::{GoalSearchFault, Oracle};
 use search_core::SearchFault;
 use std::alloc::Global;
 use strips_model::{Task, fits, known_task, start};
+use succ_table::SuccTable;
 
 /// The path of the observed task as actions of the task: each copy is read as its observation.
 fn read(
@@ -69,7 +70,7 @@ fn verdict_for<const W: usize>(
     alloc: Global,
     task: &Task,
     observations: &[ActionId],
-    made: &Task,
+    made: &SuccTable,
     goal: GoalId,
     cost: u32,
     limits: Limits,
@@ -84,10 +85,11 @@ fn verdict_for<const W: usize>(
     ensures many { result ≡ Err SearchFault.TooManyStates
         → MoreThan limits.states (IsNearObserved task.now observations.now goal) }
 {
-    known_task(made);
-    let first = start::<W>(made);
+    let task_made = made.task();
+    known_task(task_made);
+    let first = start::<W>(task_made);
     let removed = ActionSet::new(alloc);
-    let mut oracle = Oracle::new(alloc, made, goal, &removed, limits)?;
+    let mut oracle = Oracle::with_table(alloc, made, goal, &removed, limits)?;
     ask(alloc, task, observations, &mut oracle, &first, cost)
 }
 
@@ -96,7 +98,7 @@ fn verdict_of<const W: usize>(
     alloc: Global,
     task: &Task,
     observations: &[ActionId],
-    made: &Task,
+    made: &SuccTable,
     goal: GoalId,
     cost: u32,
     limits: Limits,
@@ -117,7 +119,7 @@ fn verdict_of<const W: usize>(
     }
 }
 
-/// The verdict on each goal, by states of W words.
+/// The verdict on each goal, by states of W words and one table of the observed task's actions.
 fn all_verdicts<const W: usize>(
     alloc: Global,
     task: &Task,
@@ -141,6 +143,7 @@ fn all_verdicts<const W: usize>(
         → (g.0 < length task.now.goals) × MoreThan limits.states (IsNearObserved task.now observations.now g) }
 {
     known_task(task);
+    let table = SuccTable::build(alloc, made)?;
     let mut verdicts = Vec::with_capacity(alloc, costs.len())?;
     for (i, found) in costs.iter().enumerate() {
         let verdict = match found.cost {
@@ -149,7 +152,7 @@ fn all_verdicts<const W: usize>(
                     alloc,
                     task,
                     observations,
-                    made,
+                    &table,
                     GoalId(i as u32),
                     cost,
                     limits,

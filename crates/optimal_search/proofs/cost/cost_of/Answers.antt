@@ -9,5 +9,5 @@ pub returns-in-Err-clause-many : goal.returns-in-Err-clause-many
 returns-in-Err-clause-many g c = λ other e.
     let same : c.of.result ≡ TooManyStates other = cc in
     let both = (c.of.ensures other).0 same in
-    subst (λ (h : GoalId). (h.0 < length c.args.task.now.goals) × MoreThan c.args.states (IsNear c.args.task.now h)) (sym both.1)
+    subst (λ (h : GoalId). (h.0 < length c.args.table.now.goals) × MoreThan c.args.states (IsNear c.args.table.now h)) (sym both.1)
     (c.requires.goal, c.in-Err.ensures.many (ap Err both.0))

@@ -3,6 +3,7 @@ use Rattle.std.proofs.Common.{rules, Some, [], ap, sym, subst, ◌∙◌}
 use Rattle.std.specs.Prelude.{IfOk}
 use Rattle.grd_base.specs.Bits.{members}
 use Rattle.grd_base.specs.Counts.{MoreThan}
+use Rattle.strips_model.specs.Values.{IsTask}
 use Rattle.strips_model.specs.Plans.{start_of, IsCost, IsOver}
 use Rattle.strips_model.specs.Reached.{IsNearObserved}
 use Rattle.cost_certificate.specs.Verdicts.{plain_verdict, IsRightVerdict}
@@ -15,12 +16,13 @@ ask-requires g c =
     let is = c.in_ok-oracle.ensures in
     let Over : PlainOracle → Type 0 = λ o. IsOver o.task (members c.start-first.result) in
     let Costs : PlainOracle → Type 0 = λ o. IsCost c.args.task.now o.goal [] (Some c.args.cost) in
+    let same = c.task-task_made.ensures in
     let task = ap (λ (o : PlainOracle). o.task) is in
     let made = task ∙ c.requires.made in
     let removed = ap (λ (o : PlainOracle). o.removed) is ∙ c.new-removed.ensures in
-    let first = c.start-first.ensures ∙ sym (ap start_of task) in
-    let over = subst Over (sym is) (start_over c.args.made.now (members c.start-first.result) c.known_task.ensures c.start-first.ensures) in
-    (search rules, (search rules, (made, (removed, (first, (over, subst Costs (sym is) c.requires.cost))))))
+    let begins = c.start-first.ensures ∙ ap start_of same in
+    let over = subst Over (sym is) (start_over c.args.made.now (members c.start-first.result) (subst IsTask same c.known_task.ensures) begins) in
+    (search rules, (search rules, (made, (removed, (begins ∙ sym (ap start_of task), (over, subst Costs (sym is) c.requires.cost))))))
 
 pub returns-clause-right : goal.returns-clause-right
 returns-clause-right g c =

@@ -5,7 +5,7 @@ use Rattle.grd_base.specs.Bits.{members}
 use Rattle.strips_model.specs.Values.{PlainTask}
 use Rattle.strips_model.specs.Plans.{State, step}
 use Rattle.succ_table.specs.Applicable.{applicable_of}
-use Rattle.optimal_search.specs.Space.{PlainSpace, labelled_step}
+use Rattle.optimal_search.specs.Space.{PlainSpace, labelled_step, task_in}
 use Rattle.optimal_search.proofs.StepLaws.{all_steps, found_are, found_good, filter_map_more_some, labelled_some}
 use Rattle.optimal_search.proofs.space.TaskSpaceSpace.successors.Goals as goal
 
@@ -17,7 +17,7 @@ apply_in-requires g c =
     let space = c.self.inside in
     let found : List ActionId = c.deref-a-items.result.now in
     let are : found ≡ applicable_of space.task.now space.removed.now (members c.args.s.now) =
-    found_are space.task.now space.table space.removed.now c.in_ok-found.found.items found (members c.args.s.now) c.deref-a-items.ensures.value c.in_ok-found.ensures c.self.invariant.table_of in
+    found_are space.task.now (task_in space.actions) space.removed.now c.in_ok-found.found.items found (members c.args.s.now) c.deref-a-items.ensures.value c.in_ok-found.ensures c.self.invariant.table_of in
     let good = found_good space.task.now space.removed.now found (members c.args.s.now) c.loop-a.a-index (record { 0 = 0 }) are c.loop-a-test.true in
     (search rules, (c.self.invariant.width, (c.self.invariant.atoms, good)))
 
@@ -40,6 +40,6 @@ returns g c =
     let found : List ActionId = c.deref-a-items.result.now in
     let s : State = members c.args.s.now in
     let inside : found ≡ applicable_of space.task.now space.removed.now s =
-    found_are space.task.now space.table space.removed.now c.in_ok-found.found.items found s c.deref-a-items.ensures.value c.in_ok-found.ensures c.self.invariant.table_of in
+    found_are space.task.now (task_in space.actions) space.removed.now c.in_ok-found.found.items found s c.deref-a-items.ensures.value c.in_ok-found.ensures c.self.invariant.table_of in
     let are : found ≡ applicable_of t c.args.self.now.removed s = subst (λ (x : PlainSpace). found ≡ applicable_of x.task x.removed s) c.self.view_is inside in
     all_steps t c.args.self.now.removed found c.args.s.now c.loop-a.a-index c.loop-a.steps.items c.loop-a.invariant (omega arith) are
