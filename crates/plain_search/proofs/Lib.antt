@@ -8,4 +8,3 @@ pub mod LiveLemmas
 pub mod CommonLemmas
 pub mod CompletionLemmas
 pub mod WitnessLemmas
-pub mod PlanLemmas

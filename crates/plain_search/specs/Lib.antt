@@ -1,4 +1,3 @@
-pub mod Plans
 pub mod Walks
 pub mod Layers
 pub mod Depths

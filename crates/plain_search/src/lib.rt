@@ -3,11 +3,10 @@
 //! `wcd`, which takes an optimal plan of each goal that has one, answers two goals with a longest common
 //! sequence and an optimal plan of each that begins with it, or none exactly where fewer than two goals have
 //! plans. Too many states is answered only for a goal for which more states than the limit are reached, and
-//! else only want of memory. `plans_of` takes the plans from what was found with the costs.
+//! else only want of memory.
 //!
 //! | file | what it does |
 //! |---|---|
-//! | `plans.rt` | takes the plans from what was found with the costs |
 //! | `moves.rt` | gathers the unblocked actions once: every state is expanded over these alone |
 //! | `visited.rt` | keeps the visited states, each once, with the way to it |
 //! | `walk.rt` | begins a walk |
@@ -25,9 +24,7 @@ mod completion;
 mod layers;
 mod live;
 mod moves;
-mod plans;
 mod visited;
 mod walk;
 
 pub use common::wcd;
-pub use plans::plans_of;
