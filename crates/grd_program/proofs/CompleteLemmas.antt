@@ -2,7 +2,7 @@
 use Rattle.std.proofs.Common.{◌≡◌, ◌≢◌, ℕ, ◌^◌, ◌<◌, ◌≤◌, List, length, Bool, Some, refl, sym, subst, inl, inr, arith}
 use Rattle.std.proofs.lemmas.List.{length-map}
 use Rattle.grd_base.specs.declared.ids.GoalId.{GoalId}
-use Rattle.grd_base.specs.declared.roles.FileRole.TheVariants.{Domain, Problem, Goals, Observations, Certificate}
+use Rattle.grd_base.specs.declared.roles.FileRole.TheVariants.{Domain, Problem, Goals, Observations, Certificate, Steps}
 use Rattle.grd_io.specs.Bytes.{Told, IsLongerFile}
 use Rattle.grd_io.specs.Causes.{Rose}
 use Rattle.strips_model.specs.Worlds.{goal_of}
@@ -14,7 +14,7 @@ use Rattle.type_check.specs.Rules.{IsWellTyped}
 use Rattle.type_check.specs.Typing.{IsTyped}
 use Rattle.type_check.specs.declared.faults.TypeFault.{TypeFault}
 use Rattle.goal_files.specs.declared.faults.GoalFault.{GoalFault}
-use Rattle.ground_all.specs.Grounding.{world_of, ground_task}
+use Rattle.ground_all.specs.Grounding.{world_of, ground_world, ground_task}
 use Rattle.ground_all.specs.declared.faults.GroundFault.{GroundFault}
 use Rattle.ground_all.specs.declared.faults.GroundFault.TheVariants.{TooManyAtoms, TooManyActions, OutOfMemory as CountMemory}
 use Rattle.grd_program.specs.declared.status.Status.{Status}
@@ -22,6 +22,7 @@ use Rattle.grd_program.specs.declared.status.Status.TheVariants.{Done, Refused, 
 use Rattle.grd_program.specs.declared.status.Refusal.{Refusal}
 use Rattle.grd_program.specs.declared.status.Refusal.TheVariants.{TooLong, Pddl, Typing, Goals as OfGoals, Count}
 use Rattle.grd_program.specs.declared.status.LimitFault.TheVariants.{States}
+use Rattle.grd_program.specs.declared.status.Target.TheVariants.{Output, Certificate as ToCertificate}
 use Rattle.command_words.specs.declared.command.Command.{Command}
 use Rattle.command_words.specs.declared.command.Command.TheVariants.{Cost, Wcd, Show}
 use Rattle.grd_program.specs.declared.question.Question.{Question}
@@ -44,8 +45,8 @@ short_file told text limit there short is longer =
     omega (arith, is, short, more)
 
 -- as many goals of a task as of its world
-goals_many : (typed : PlainTyped) (goals : List (List PlainGroundAtom)) → length (ground_task typed goals).goals ≡ length goals
-unfolding ground_task
+pub goals_many : (typed : PlainTyped) (goals : List (List PlainGroundAtom)) → length (ground_task typed goals).goals ≡ length goals
+unfolding ground_world
 goals_many typed goals = length-map goals (goal_of is_same_atom (world_of typed goals))
 
 -- a world that is small enough is not too large
@@ -74,6 +75,7 @@ module _ (told : List ℕ → Told) (before now : List ℕ → Bool → ℕ) (jo
   texts_complete d p w f (Refused (TooLong Goals limit)) h = absurd h
   texts_complete d p w f (Refused (TooLong Observations limit)) h = absurd h
   texts_complete d p w f (Refused (TooLong Certificate limit)) h = absurd h
+  texts_complete d p w f (Refused (TooLong Steps limit)) h = absurd h
   texts_complete d p w f (Refused (Pddl Domain fault)) h =
       absurd ((subst (λ t. HasText t (FailsDomain fault)) w.domain_there h.2).1.no_domain d w.is_domain)
   texts_complete d p w f (Refused (Pddl Problem fault)) h =
@@ -81,6 +83,7 @@ module _ (told : List ℕ → Told) (before now : List ℕ → Bool → ℕ) (jo
   texts_complete d p w f (Refused (Pddl Goals fault)) h = absurd h
   texts_complete d p w f (Refused (Pddl Observations fault)) h = absurd h
   texts_complete d p w f (Refused (Pddl Certificate fault)) h = absurd h
+  texts_complete d p w f (Refused (Pddl Steps fault)) h = absurd h
   texts_complete d p w f (Refused (Typing fault)) h = absurd h
   texts_complete d p w f (Refused (OfGoals fault)) h = absurd h
   texts_complete d p w f (Refused (Count fault)) h = absurd h
@@ -90,6 +93,7 @@ module _ (told : List ℕ → Told) (before now : List ℕ → Bool → ℕ) (jo
   texts_complete d p w f (ReadFailed Goals) h = absurd h
   texts_complete d p w f (ReadFailed Observations) h = absurd h
   texts_complete d p w f (ReadFailed Certificate) h = absurd h
+  texts_complete d p w f (ReadFailed Steps) h = absurd h
   texts_complete d p w f (WriteFailed target) h = absurd h
   texts_complete d p w f OutOfMemory h = refl
 
@@ -135,11 +139,13 @@ module _ (told : List ℕ → Told) (before now : List ℕ → Bool → ℕ) (jo
         absurd (short_file (told job.goals) can.world.goals_bytes limit can.world.goals_there can.world.goals_short h.0 h.4)
     files_complete can (Refused (TooLong Observations limit)) h = absurd h
     files_complete can (Refused (TooLong Certificate limit)) h = absurd h
+    files_complete can (Refused (TooLong Steps limit)) h = absurd h
     files_complete can (Refused (Pddl Domain fault)) h = as_texts can (Refused (Pddl Domain fault)) h
     files_complete can (Refused (Pddl Problem fault)) h = as_texts can (Refused (Pddl Problem fault)) h
     files_complete can (Refused (Pddl Goals fault)) h = absurd h
     files_complete can (Refused (Pddl Observations fault)) h = absurd h
     files_complete can (Refused (Pddl Certificate fault)) h = absurd h
+    files_complete can (Refused (Pddl Steps fault)) h = absurd h
     files_complete can (Refused (Typing fault)) h = absurd (typing_complete can fault h)
     files_complete can (Refused (OfGoals fault)) h =
         absurd (goals_complete can fault (subst (λ t. HasText (told job.goals) (λ text. HasOnlyFault t text fault)) (same_typed can h.2 h.3) h.4))
@@ -156,6 +162,7 @@ module _ (told : List ℕ → Told) (before now : List ℕ → Bool → ℕ) (jo
     files_complete can (ReadFailed Goals) h = absurd (can.reads_goals h.1.rose)
     files_complete can (ReadFailed Observations) h = absurd h
     files_complete can (ReadFailed Certificate) h = absurd h
+    files_complete can (ReadFailed Steps) h = absurd h
     files_complete can (WriteFailed target) h = absurd h
     files_complete can OutOfMemory h = refl
 
@@ -182,7 +189,8 @@ pub complete : (told : List ℕ → Told) (before now : List ℕ → Bool → �
     → HasCause told before now words ob on s → IsComplete told before now words ob on s
 complete told before now words ob on Done h job reads can = inl refl
 complete told before now words ob on (Usage fault) h job reads can = absurd (h.1.no_job job reads)
-complete told before now words ob on (WriteFailed target) h job reads can = absurd (no_write told before now job ob on job.command can h.1)
+complete told before now words ob on (WriteFailed Output) h job reads can = absurd (no_write told before now job ob on job.command can h.1)
+complete told before now words ob on (WriteFailed ToCertificate) h job reads can = absurd h
 complete told before now words ob on OutOfMemory h job reads can = inr refl
 complete told before now words ob on (Refused refusal) h job reads can = inr (asked_complete told before now words ob on (Refused refusal) job h.0 reads can h.1 h.2)
 complete told before now words ob on (Limit fault) h job reads can = inr (asked_complete told before now words ob on (Limit fault) job h.0 reads can h.1 h.2)
@@ -202,6 +210,7 @@ module _ (told : List ℕ → Told) (before now : List ℕ → Bool → ℕ) (jo
   plain_texts (Pddl Goals fault) h = absurd h
   plain_texts (Pddl Observations fault) h = absurd h
   plain_texts (Pddl Certificate fault) h = absurd h
+  plain_texts (Pddl Steps fault) h = absurd h
   plain_texts (Typing fault) h = tt
   plain_texts (OfGoals fault) h = absurd h
   plain_texts (Count fault) h = absurd h

@@ -1,3 +1,4 @@
 pub mod FileLemmas
 pub mod CompleteLemmas
+pub mod WorldAnswers
 pub mod NearLemmas

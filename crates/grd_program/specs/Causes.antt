@@ -15,7 +15,7 @@ use Rattle.type_check.specs.declared.faults.TypeFault.{TypeFault}
 use Rattle.goal_files.specs.Goals.{SpellsGoals, IsGoalFault}
 use Rattle.goal_files.specs.declared.faults.GoalFault.{GoalFault}
 use Rattle.goal_files.specs.declared.faults.GoalFault.TheVariants.{OutOfMemory as GoalsOutOfMemory}
-use Rattle.ground_all.specs.Grounding.{fluent_atoms, instances}
+use Rattle.ground_all.specs.Grounding.{task_atoms, instances}
 use Rattle.ground_all.specs.declared.faults.GroundFault.TheVariants.{TooManyAtoms, TooManyActions}
 use Rattle.grd_program.specs.declared.status.Status.{Status}
 use Rattle.grd_program.specs.declared.status.Status.TheVariants.{Refused, ReadFailed, OutOfMemory}
@@ -102,15 +102,16 @@ HasGoalsCause told before now name typed (Refused (OfGoals fault)) =
     (fault ≢ GoalsOutOfMemory) × IsQuiet before now × HasText told (λ text. HasOnlyFault typed text fault)
 HasGoalsCause told before now name typed status = HasReadCause Goals told before now name status
 
--- the world is small enough: at most 3,072 fluent atoms and 1,048,576 typed instances of actions
+-- the world is small enough: at most 3,072 fluent atoms and complements together, and 1,048,576 typed instances of
+-- actions
 pub record HasFew (typed : PlainTyped) : Type 0 where
-  pub atoms : length (fluent_atoms typed) ≤ 3072
+  pub atoms : length (task_atoms typed) ≤ 3072
   pub actions : length (instances typed) ≤ 2 ^ 20
 
 -- what a status says of a world that is too large: how many atoms it has, or else how many actions
 abbrev pub HasCountCause : PlainTyped → Status → Type 0
-HasCountCause typed (Refused (Count (TooManyAtoms count))) = (count ≡ length (fluent_atoms typed)) × (3072 < count)
+HasCountCause typed (Refused (Count (TooManyAtoms count))) = (count ≡ length (task_atoms typed)) × (3072 < count)
 HasCountCause typed (Refused (Count (TooManyActions count))) =
-    (length (fluent_atoms typed) ≤ 3072) × (count ≡ length (instances typed)) × (2 ^ 20 < count)
+    (length (task_atoms typed) ≤ 3072) × (count ≡ length (instances typed)) × (2 ^ 20 < count)
 HasCountCause typed OutOfMemory = Unit {0}
 HasCountCause typed status = ⊥

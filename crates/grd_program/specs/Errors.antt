@@ -8,7 +8,7 @@ use Rattle.goal_files.specs.declared.faults.GoalFault.TheVariants.{Shape, Unknow
 use Rattle.pddl_lexer.specs.declared.faults.TreeFault.{TreeFault}
 use Rattle.pddl_lexer.specs.declared.faults.TreeFault.TheVariants.{Nothing, TooDeep, Unopened, Trailing, Unclosed, OutOfMemory as TreeOutOfMemory}
 use Rattle.pddl_reader.specs.declared.faults.Feature.{Feature}
-use Rattle.pddl_reader.specs.declared.faults.Feature.TheVariants.{Requirement, Functions, Derived, Durative, Constraints, Metric, EitherOfNames, Disjunction, Implication, Quantifier, Conditional, Preference, NumericEffect, NumericCondition, Equality, NegativePrecondition, NegativeInit}
+use Rattle.pddl_reader.specs.declared.faults.Feature.TheVariants.{Requirement, Functions, Derived, Durative, Constraints, Metric, EitherOfNames, Disjunction, Implication, Quantifier, Conditional, Preference, NumericEffect, NumericCondition, Equality, NegativeInit}
 use Rattle.pddl_reader.specs.declared.faults.PddlFault.{PddlFault}
 use Rattle.pddl_reader.specs.declared.faults.PddlFault.TheVariants.{Lex, Tree, Shape as PddlShape, Unsupported, DoubledSection, OutOfMemory as PddlOutOfMemory}
 use Rattle.type_check.specs.declared.faults.TypeFault.{TypeFault}
@@ -23,7 +23,7 @@ use Rattle.grd_program.specs.declared.status.Refusal.TheVariants.{TooLong, Pddl,
 use Rattle.command_words.specs.declared.faults.UsageFault.{UsageFault}
 use Rattle.command_words.specs.declared.faults.UsageFault.TheVariants.{NoCommand, UnknownCommand, BadItem, Repeated, Missing, BadNumber}
 use Rattle.grd_program.specs.declared.status.LimitFault.TheVariants.{States}
-use Rattle.grd_program.specs.declared.status.Target.TheVariants.{Output}
+use Rattle.grd_program.specs.declared.status.Target.TheVariants.{Output, Certificate as ToCertificate}
 use Rattle.command_words.specs.Commands.{flag_of}
 
 -- the word of a file
@@ -69,7 +69,6 @@ feature_text Preference = codes "preference"
 feature_text NumericEffect = codes "numeric effect"
 feature_text NumericCondition = codes "numeric condition"
 feature_text Equality = codes "equality"
-feature_text NegativePrecondition = codes "negative precondition"
 feature_text NegativeInit = codes "negative initial atom"
 
 -- what is said of a place in a file
@@ -136,4 +135,5 @@ error_text (Limit (States goal states)) =
     codes "grd: limit: more than " ++ decimal states ++ codes " states near goal " ++ decimal (goal.0 + 1) ++ codes "\n"
 error_text (ReadFailed role) = codes "grd: " ++ role_text role ++ codes ": read failed\n"
 error_text (WriteFailed Output) = codes "grd: output: write failed\n"
+error_text (WriteFailed ToCertificate) = codes "grd: certificate: write failed\n"
 error_text OutOfMemory = codes "grd: out of memory\n"

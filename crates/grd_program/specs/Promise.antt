@@ -12,7 +12,7 @@ pub use Rattle.grd_program.specs.Causes.{HasText, IsQuiet, OnlyRose, FailsDomain
 pub use Rattle.grd_program.specs.Causes.{FailsTyping, HasTypingCause, SpellsOnlyGoals, HasOnlyFault, HasFew}
 pub use Rattle.grd_program.specs.Causes.{HasCountCause}
 -- What a run of the program does.
-pub use Rattle.grd_program.specs.Runs.{IsWcdReport, IsReportOn, SpellWorld, IsWorldReport, IsShownText}
+pub use Rattle.grd_program.specs.Runs.{plans_in, IsWcdReport, IsReportOn, SpellWorld, IsWorldReport, IsShownText}
 pub use Rattle.grd_program.specs.Runs.{IsReportText, IsShowText, IsTextOf, IsAnswerText, HasReported}
 pub use Rattle.grd_program.specs.Runs.{HasReportedPartly, HasWritten, GrowsBy, HasWarned, CountsFor}
 pub use Rattle.grd_program.specs.Runs.{MeetsLimit, HasAnswerCause, SpellsOnly, TakesDomain, TakesProblem}

@@ -6,7 +6,9 @@ use Rattle.grd_base.specs.declared.roles.FileRole.TheVariants.{Domain, Problem, 
 use Rattle.grd_io.specs.Bytes.{Told, extended, IsLongerFile}
 use Rattle.grd_io.specs.Causes.{Rose}
 use Rattle.strips_model.specs.Values.{PlainTask, PlainWitness}
-use Rattle.strips_model.specs.Common.{AreRight, IsRightWcd}
+use Rattle.strips_model.specs.Agents.{Plans}
+use Rattle.strips_model.specs.Answers.{IsRightWcdAmong, AreRightAmong}
+use Rattle.strips_model.specs.WorldPlans.{IsWorldPlan}
 use Rattle.grd_base.specs.Counts.{MoreThan}
 use Rattle.strips_model.specs.Plans.{State}
 use Rattle.strips_model.specs.Reached.{IsReachedFor, IsNear}
@@ -15,7 +17,7 @@ use Rattle.pddl_reader.specs.Spelling.{IsDomainText, IsProblemText}
 use Rattle.type_check.specs.Values.{PlainTyped, PlainGroundAtom}
 use Rattle.type_check.specs.Typing.{IsTyped}
 use Rattle.goal_files.specs.Goals.{SpellsGoals}
-use Rattle.ground_all.specs.Grounding.{ground_task}
+use Rattle.ground_all.specs.Grounding.{ground_world, ground_task}
 use Rattle.goal_files.specs.declared.faults.GoalFault.TheVariants.{OutOfMemory as GoalsOutOfMemory}
 use Rattle.pddl_print.specs.Canonical.{domain_text, problem_text}
 use Rattle.command_words.specs.declared.command.Command.{Command}
@@ -27,24 +29,30 @@ use Rattle.grd_program.specs.declared.status.Status.TheVariants.{Done, Refused, 
 use Rattle.grd_program.specs.declared.status.Refusal.TheVariants.{TooLong, Pddl, Typing, Goals as OfGoals, Count}
 use Rattle.command_words.specs.declared.faults.UsageFault.{UsageFault}
 use Rattle.grd_program.specs.declared.status.LimitFault.TheVariants.{States}
+use Rattle.grd_program.specs.declared.status.Target.TheVariants.{Output, Certificate}
 use Rattle.command_words.specs.Commands.{PlainJob, Reads, IsUsageFault}
 use Rattle.report_text.specs.Reports.{action_names, cost_report, wcd_report}
 use Rattle.grd_program.specs.Errors.{error_text}
 use Rattle.grd_program.specs.Statuses.{IsPlainFault}
 use Rattle.grd_program.specs.Causes.{HasText, IsQuiet, OnlyRose, FailsDomain, FailsProblem, AreTyped, HasTypingCause, SpellsOnlyGoals, HasOnlyFault, HasFew, HasCountCause}
 
+-- the plans of the world of these goals
+abbrev pub plans_in : PlainTyped → List (List PlainGroundAtom) → Plans
+plans_in typed goals = IsWorldPlan (ground_world typed goals)
+
 -- the text is the report of the costs that were found and of a right wcd
-abbrev pub IsWcdReport : PlainTask → List (List ℕ) → List (Option (List ActionId)) → List ℕ → Type 0
-IsWcdReport t names found text = (wcd : Option PlainWitness) × IsRightWcd t [] wcd × (text ≡ wcd_report names found wcd)
+abbrev pub IsWcdReport : PlainTyped → List (List PlainGroundAtom) → List (Option (List ActionId)) → List ℕ → Type 0
+IsWcdReport typed goals found text =
+    (wcd : Option PlainWitness) × IsRightWcdAmong (plans_in typed goals) [] wcd × (text ≡ wcd_report (action_names typed) found wcd)
 
 -- the text is the report that answers the question with what is right for the goals of this world
 abbrev pub IsReportOn : Question → PlainTyped → List (List PlainGroundAtom) → List ℕ → Type 0
 IsReportOn Costs typed goals text =
-    (found : List (Option (List ActionId))) × AreRight (ground_task typed goals) [] found
+    (found : List (Option (List ActionId))) × AreRightAmong (plans_in typed goals) (length goals) [] found
     × (text ≡ cost_report (action_names typed) found)
 IsReportOn OfWcd typed goals text =
-    (found : List (Option (List ActionId))) × AreRight (ground_task typed goals) [] found
-    × IsWcdReport (ground_task typed goals) (action_names typed) found text
+    (found : List (Option (List ActionId))) × AreRightAmong (plans_in typed goals) (length goals) [] found
+    × IsWcdReport typed goals found text
 
 -- the three texts spell a world with goals: a domain and a problem that are well typed, and goals over them
 pub record SpellWorld (domain_text problem_text goals_text : List ℕ) (typed : PlainTyped) (goals : List (List PlainGroundAtom)) : Type 0 where
@@ -124,7 +132,8 @@ HasWritten told words before now (Refused refusal) = now ≡ before
 HasWritten told words before now (Usage fault) = now ≡ before
 HasWritten told words before now (Limit fault) = now ≡ before
 HasWritten told words before now (ReadFailed role) = now ≡ before
-HasWritten told words before now (WriteFailed target) = HasReportedPartly told words before now
+HasWritten told words before now (WriteFailed Output) = HasReportedPartly told words before now
+HasWritten told words before now (WriteFailed Certificate) = now ≡ before
 HasWritten told words before now OutOfMemory = now ≡ before
 
 -- a sink has grown by the whole of a line, or by a front of it where its count rose
@@ -293,7 +302,8 @@ pub record HasPassed (told : List ℕ → Told) (before now : List ℕ → Bool 
 -- why the run ended so; Done comes only where no count changed
 abbrev pub HasCause : (List ℕ → Told) → (List ℕ → Bool → ℕ) → (List ℕ → Bool → ℕ) → List (List ℕ) → ℕ → ℕ → Status → Type 0
 HasCause told before now words out_before out_now Done = HasPassed told before now words × (out_now ≡ out_before)
-HasCause told before now words out_before out_now (WriteFailed target) = HasPassed told before now words × Rose out_before out_now
+HasCause told before now words out_before out_now (WriteFailed Output) = HasPassed told before now words × Rose out_before out_now
+HasCause told before now words out_before out_now (WriteFailed Certificate) = ⊥
 HasCause told before now words out_before out_now status = HasInputCause told before now words status
 
 -- the domain and the problem are there, each with at most 2^20 bytes, and spell these

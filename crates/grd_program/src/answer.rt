@@ -16,8 +16,8 @@ use command_words::{Command, Job, WordsFault, read_words};
 use grd_base::{ActionId, GoalId, Limits};
 use grd_io::Shelf;
 use ground_all::{GroundFault, Grounded, ground};
-use optimal_search::{GoalSearchFault, costs};
-use plain_search::{plans_of, wcd};
+use optimal_search::{GoalSearchFault, plans};
+use plain_search::wcd;
 use report_text::{cost_report, wcd_report};
 use std::alloc::Global;
 use type_check::{Goal, Typed};
@@ -87,19 +87,21 @@ fn search_status(fault: GoalSearchFault, states: u32) -> Status
 }
 
 /// The report of `wcd` over a world whose costs were found.
+#[tactic(auto, using(crate::proofs::WorldAnswers::wcd_in_world))]
 fn wcd_on(
     alloc: Global,
     world: &Grounded<'_>,
     states: u32,
     found: &[Option<Vec<ActionId>>],
 ) -> Result<Vec<u8>, Status>
+    requires task { IsTypedTask world.now.typed }
     requires states { 1 ≤ states }
     requires right { AreRight (ground_task world.now.typed world.now.goals) []
         (map (option_map (λ plan. plan.items)) found.now) }
     requires in_range { All
         (λ x. IfSome x (λ plan. All (λ a. a.0 < length (instances world.now.typed)) plan.items)) found.now }
     ensures report { IfOk result
-        (λ text. IsWcdReport (ground_task world.now.typed world.now.goals) (action_names world.now.typed)
+        (λ text. IsWcdReport world.now.typed world.now.goals
         (map (option_map (λ plan. plan.items)) found.now) text.items) }
     ensures cause { IfErr result
         (HasSearchCause Question.Wcd states (ground_task world.now.typed world.now.goals)) }
@@ -112,13 +114,14 @@ fn wcd_on(
 }
 
 /// The report that answers the question about a world.
-#[tactic(auto, using(crate::proofs::NearLemmas::near_counts))]
+#[tactic(auto, using(crate::proofs::NearLemmas::near_counts, crate::proofs::WorldAnswers::right_in_world))]
 fn report_of(
     alloc: Global,
     question: Question,
     states: u32,
     world: &Grounded<'_>,
 ) -> Result<Vec<u8>, Status>
+    requires task { IsTypedTask world.now.typed }
     requires some_states { 1 ≤ states }
     requires few_states { states ≤ 1000000 }
     ensures report { IfOk result
@@ -128,8 +131,8 @@ fn report_of(
 {
     let task = world.task();
     let limits = Limits { states, sets: 0 };
-    let found = match costs(alloc, task, limits) {
-        Ok(found) => plans_of(alloc, task, states, found)?,
+    let found = match plans(alloc, task, limits) {
+        Ok(found) => found,
         Err(fault) => return Err(search_status(fault, states)),
     };
     match question {

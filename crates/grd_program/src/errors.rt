@@ -16,8 +16,15 @@ use type_check::{TypeFault, TypeKind};
 /// The line of want of memory. It is a constant, so that it takes none.
 pub(crate) const OUT_OF_MEMORY: &[u8] = b"grd: out of memory\n";
 
-/// The line of a failed write to the output.
-pub(crate) const OUTPUT_FAILED: &[u8] = b"grd: output: write failed\n";
+/// The line of a failed write. It is a constant, so that it takes no memory.
+pub(crate) fn write_failed(target: Target) -> &'static [u8]
+    ensures { result.now ≡ error_text (Status.WriteFailed target) }
+{
+    match target {
+        Target::Output => b"grd: output: write failed\n",
+        Target::Certificate => b"grd: certificate: write failed\n",
+    }
+}
 
 /// The line that a status writes to the error stream, with its line feed. It is empty for Done.
 pub fn error_line(alloc: Global, status: &Status) -> Result<Vec<u8>, OutOfMemory>
@@ -32,7 +39,7 @@ pub fn error_line(alloc: Global, status: &Status) -> Result<Vec<u8>, OutOfMemory
             push_limit(&mut line, number_of(*goal), *states)?;
         }
         Status::ReadFailed(role) => push_read_failed(&mut line, role)?,
-        Status::WriteFailed(Target::Output) => return Ok(Vec::from_slice(alloc, OUTPUT_FAILED)?),
+        Status::WriteFailed(target) => return Ok(Vec::from_slice(alloc, write_failed(*target))?),
         Status::OutOfMemory => return Ok(Vec::from_slice(alloc, OUT_OF_MEMORY)?),
     }
     Ok(line.into_bytes())
@@ -159,7 +166,6 @@ fn feature_name(feature: &Feature) -> &'static str
         Feature::NumericEffect => "numeric effect",
         Feature::NumericCondition => "numeric condition",
         Feature::Equality => "equality",
-        Feature::NegativePrecondition => "negative precondition",
         Feature::NegativeInit => "negative initial atom",
     }
 }

@@ -3,7 +3,7 @@ ghost use Rattle.grd_program.specs.Statuses.{IsPlainStatus};
 ghost use Rattle.grd_program.specs.Runs.{HasWritten, HasWarned, HasCause, IsComplete, GrowsBy, MayBecome};
 
 use crate::answer::answer;
-use crate::errors::{OUT_OF_MEMORY, OUTPUT_FAILED, error_line};
+use crate::errors::{OUT_OF_MEMORY, error_line, write_failed};
 use crate::status::{Status, Target};
 use grd_base::OutOfMemory;
 use grd_io::{Shelf, Sink, write_whole};
@@ -64,9 +64,9 @@ fn warn<E: Sink>(alloc: Global, status: Status, err: &mut E) -> Status
 {
     match status {
         Status::Done => status,
-        Status::WriteFailed(Target::Output) => {
-            put_line(err, OUTPUT_FAILED);
-            Status::WriteFailed(Target::Output)
+        Status::WriteFailed(target) => {
+            put_line(err, write_failed(target));
+            Status::WriteFailed(target)
         }
         Status::OutOfMemory => {
             put_line(err, OUT_OF_MEMORY);

@@ -48,7 +48,10 @@ pub enum LimitFault {
 /// What is written to.
 #[derive(Clone, Copy, Debug, PartialEq, Eq)]
 pub enum Target {
+    /// The standard output.
     Output,
+    /// The file of the certificate.
+    Certificate,
 }
 
 impl Status {
