@@ -1,1 +1,2 @@
+mod NodeRows
 mod VerdictRows

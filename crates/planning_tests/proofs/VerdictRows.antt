@@ -1,5 +1,5 @@
 -- The rows of right verdicts.
-use Rattle.std.proofs.Common.{◌≡◌, ℕ, ◌<◌, Vec, Global, Result, Ok, Err, List, [], length, get_or, sym, ap, subst, ◌∙◌, arith, Option, Some, None}
+use Rattle.std.proofs.Common.{◌≡◌, ℕ, ◌<◌, Vec, Global, Result, Ok, Err, List, [], length, get_or, sym, subst, arith, Option, Some, None}
 use Rattle.std.specs.Prelude.{All, IfOk, slice_get}
 use Rattle.std.proofs.lemmas.List.Elements.{All-nil}
 use Rattle.std.proofs.lemmas.Option.{slice_get_within, slice_get-get_or}

@@ -2,8 +2,8 @@ ghost use Rattle.std.specs.Prelude.{◌≤◌};
 
 use crate::samples::{FORK_OF_EQUALS, FORK_OF_ONE, FORK_OF_TWO, LATE_FORK, Sample, TWO_WAYS, task};
 use grd_base::{ActionId, GoalId, Limits};
-use optimal_search::{GoalSearchFault, costs};
-use plain_search::{plans_of, wcd};
+use optimal_search::{GoalSearchFault, plans};
+use plain_search::wcd;
 use std::alloc::Global;
 use std::test::Fail;
 use strips_model::{Task, Witness};
@@ -27,9 +27,8 @@ fn answer(alloc: Global, task: &Task, limit: u32) -> Result<Option<Witness>, Goa
         states: limit,
         sets: 0,
     };
-    let found = costs(alloc, task, limits)?;
-    let plans = plans_of(alloc, task, limit, found)?;
-    wcd(alloc, task, plans.as_slice(), limit)
+    let found = plans(alloc, task, limits)?;
+    wcd(alloc, task, found.as_slice(), limit)
 }
 
 // The answer for the sample, where so many states may be kept.

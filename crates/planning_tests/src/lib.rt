@@ -14,6 +14,8 @@
 //! - `least.rt`: the search for a least path, over any space with any floor.
 //! - `numbering.rt`: the numbers of states.
 //! - `tables.rt`: the test of tables of rows.
+//! - `live_rows.rt`: the test of live rows.
+//! - `trees.rt`: the test of trees.
 //! - `costs.rt`: the costs of goals, and oracles.
 //! - `verdicts.rt`: which goals are recognised.
 //! - `common.rt`: the longest common sequences.
@@ -33,6 +35,8 @@ mod least;
 #[cfg(test)]
 mod levels;
 #[cfg(test)]
+mod live_rows;
+#[cfg(test)]
 mod numbering;
 #[cfg(test)]
 mod observed;
@@ -48,5 +52,7 @@ mod successors;
 mod tables;
 #[cfg(test)]
 mod tasks;
+#[cfg(test)]
+mod trees;
 #[cfg(test)]
 mod verdicts;

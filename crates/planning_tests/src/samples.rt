@@ -4,7 +4,7 @@ ghost use Rattle.std.specs.Prelude.{◌≡◌, ℕ, ◌<◌, ◌≤◌, All, IfO
 ghost use Rattle.grd_base.specs.Bits.{members};
 ghost use Rattle.strips_model.specs.Values.{AreAtoms, IsActionBelow};
 
-use grd_base::{AtomId, Bits, GoalId};
+use grd_base::{ActionId, ActionSet, AtomId, Bits, GoalId};
 use std::alloc::Global;
 use std::test::Fail;
 use strips_model::{Action, Condition, Task, atoms_of};
@@ -92,6 +92,22 @@ pub(crate) const FORK: Sample = Sample {
         from_to!(2, 4),
     ],
     goals: &[all_of!([3]), all_of!([4])],
+};
+
+/// Fork with another way to its left end, that shares no action with the others: from atom 0 by action 4 to 5,
+/// by 5 to 6, and by 6 to 3.
+pub(crate) const TWO: Sample = Sample {
+    atoms: 7,
+    actions: &[
+        from_to!(0, 1),
+        from_to!(1, 2),
+        from_to!(2, 3),
+        from_to!(2, 4),
+        from_to!(0, 5),
+        from_to!(5, 6),
+        from_to!(6, 3),
+    ],
+    ..FORK
 };
 
 /// Fork with four goals: its ends, its start, and both ends at once.
@@ -324,4 +340,27 @@ pub(crate) fn goal(task: &Task, number: u32) -> Result<GoalId, Fail>
         return Err("a number of a goal")?;
     }
     Ok(GoalId(number))
+}
+
+/// The actions of these numbers, which the task has.
+pub(crate) fn actions_of(alloc: Global, task: &Task, numbers: &[u32]) -> Result<Vec<ActionId>, Fail>
+    ensures { IfOk result (λ plan. All (λ a. a.0 < length task.now.actions) plan.items) }
+{
+    let mut plan = Vec::new(alloc);
+    for n in numbers {
+        if *n as usize >= task.actions.len() {
+            return Err("a number of an action")?;
+        }
+        plan.push(ActionId(*n))?;
+    }
+    Ok(plan)
+}
+
+/// The set of the actions of these numbers.
+pub(crate) fn set_of(alloc: Global, numbers: &[u32]) -> Result<ActionSet, Fail> {
+    let mut set = ActionSet::new(alloc);
+    for n in numbers {
+        set = set.with(alloc, ActionId(*n))?;
+    }
+    Ok(set)
 }

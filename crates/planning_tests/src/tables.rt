@@ -9,11 +9,11 @@ use std::alloc::Global;
 use std::test::Fail;
 use strips_model::{Family, Task};
 
-// The sets of a row by cuts; none of a row by steps.
-type Sets = Option<&'static [&'static [u32]]>;
+/// The sets of a row by cuts; none of a row by steps.
+pub(crate) type Sets = Option<&'static [&'static [u32]]>;
 
-// A row by the atoms of its state, its bound and its sets.
-type PlainRow = (&'static [u32], Bound, Sets);
+/// A row by the atoms of its state, its bound and its sets.
+pub(crate) type PlainRow = (&'static [u32], Bound, Sets);
 
 fn family(alloc: Global, below: u32, sets: &[&[u32]]) -> Result<Family, Fail>
     ensures { IfOk result (λ family. All (AreAtoms below) family) }
@@ -45,7 +45,8 @@ fn row(alloc: Global, task: &Task, plain: PlainRow) -> Result<Row, Fail>
     })
 }
 
-fn table(alloc: Global, task: &Task, plain: &[PlainRow]) -> Result<Table, Fail>
+/// The table of these rows.
+pub(crate) fn table(alloc: Global, task: &Task, plain: &[PlainRow]) -> Result<Table, Fail>
     ensures { IfOk result (λ table. All (IsRowOver task.now) table) }
 {
     let mut rows = Vec::new(alloc);
@@ -163,6 +164,7 @@ const KINDS: &[(CheckKind, &str)] = &[
     (CheckKind::LiveSuccessor, "live successor"),
     (CheckKind::LiveTooDeep, "live too deep"),
     (CheckKind::TreeBranch, "tree branch"),
+    (CheckKind::UseMissing, "use missing"),
     (CheckKind::TreeLeaf, "tree leaf"),
     (CheckKind::ClaimMissing, "claim missing"),
     (CheckKind::Truncated, "truncated"),

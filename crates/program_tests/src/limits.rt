@@ -1,8 +1,8 @@
 // The limits: of the bytes of a file, of the atoms and actions of a world, and of states.
 use crate::runs::{NO_FAILURE, Wanted, done, ends, expect_run, run_on};
 use crate::samples::{
-    COST, FORK, FORK_START, PAIRS, SHOW, TRIPLES, Texts, fork, many_objects, padded, switches,
-    traps,
+    COST, FORK, FORK_START, PAIRS, SHOW, TRIPLES, Texts, WATCHED, fork, many_objects, padded,
+    switches, traps,
 };
 use std::alloc::Global;
 use std::process::Abort;
@@ -29,6 +29,8 @@ fn expect_world(
 const WORLDS: &[(&str, u32, u8, &str, &str)] = &[
     (PAIRS, 55, 0, "goals 1\ngoal 1 cost 0\n", ""),
     (PAIRS, 56, 1, "", "grd: 3136 atoms, limit 3072\n"),
+    (WATCHED, 39, 0, "goals 1\ngoal 1 cost 0\n", ""),
+    (WATCHED, 40, 1, "", "grd: 3200 atoms, limit 3072\n"),
     (TRIPLES, 101, 0, "goals 1\ngoal 1 cost 0\n", ""),
     (TRIPLES, 102, 1, "", "grd: 1061208 actions, limit 1048576\n"),
 ];

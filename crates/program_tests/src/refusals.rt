@@ -78,6 +78,16 @@ const FAULTY_FILES: &[(&str, &str, &str)] = &[
         FORK_START,
         "grd: domain: byte 38: unsupported numeric effect\n",
     ),
+    (
+        "(define (domain d) (:predicates (p ?x)) (:action a :parameters (?x) :precondition (not (p ?x)) :effect (= ?x ?x)))",
+        FORK_START,
+        "grd: domain: byte 103: unsupported equality\n",
+    ),
+    (
+        "(define (domain d) (:action a :precondition (not (not (p)))))",
+        FORK_START,
+        "grd: domain: byte 50: shape\n",
+    ),
     (ILL_TYPED, "; (define", "grd: problem: empty\n"),
     (ILL_TYPED, ")", "grd: problem: byte 0: unopened\n"),
     (
@@ -129,6 +139,9 @@ const BROKEN_RULES: &str = "\
 (define (domain d) (:predicates (p ?x)) (:action a :effect (p ?x)))|(define (problem p) (:domain d) (:init))|domain: byte 62: unbound variable\n\
 (define (domain d))|(define (problem p) (:domain e) (:init))|problem: byte 29: other domain\n\
 (define (domain d) (:predicates (p ?a ?b ?c ?d ?e ?f ?g ?h ?i)))|(define (problem p) (:domain d) (:init))|domain: byte 33: too many parameters\n\
+(define (domain d) (:action a :parameters (?x) :precondition (= ?x)))|(define (problem p) (:domain d) (:init))|domain: byte 62: wrong count\n\
+(define (domain d) (:predicates (p)) (:action a :parameters (?x) :precondition (and (not (p)) (not (= ?x ?y)))))|(define (problem p) (:domain d) (:init))|domain: byte 105: unbound variable\n\
+(define (domain d) (:action a :precondition (not (p))))|(define (problem p) (:domain d) (:init))|domain: byte 50: unknown predicate\n\
 ";
 
 /// What is told of a domain and a problem, which stand in one line with bars between them.

@@ -1,9 +1,10 @@
 // The reports of costs and of common sequences, and the canonical texts.
 use crate::runs::{NO_FAILURE, done, expect_run, run_on};
 use crate::samples::{
-    COST, DOORS, DOORS_START, FORK, FORK_START, GRID, KEEP, KEEP_START, LADDER, LADDER_START,
-    LOOSE, LOOSE_START, ROOMS, ROOMS_SHOWN, ROOMS_START, ROOMS_START_SHOWN, SHORT, SHORT_SHOWN,
-    SHORT_START, SHOW, Texts, WCD, fork, grid_start, repeated,
+    COST, DOORS, DOORS_START, FORK, FORK_START, GRID, GUARD, GUARD_START, KEEP, KEEP_START, LADDER,
+    LADDER_START, LAMP, LAMP_SHOWN, LAMP_START, LOOSE, LOOSE_START, PAIR, PAIR_SHOWN, PAIR_START,
+    ROOMS, ROOMS_SHOWN, ROOMS_START, ROOMS_START_SHOWN, SHORT, SHORT_SHOWN, SHORT_START, SHOW,
+    TWICE, TWICE_START, Texts, WCD, fork, grid_start, repeated,
 };
 use std::alloc::Global;
 use std::test::Fail;
@@ -46,6 +47,25 @@ const COSTS: &[(&str, &str, &str, &str)] = &[
         LOOSE_START,
         "(high)\n(high)(middle)",
         "goals 2\ngoal 1 cost 2 (start) (top)\ngoal 2 cost 3 (start) (top) (start)\n",
+    ),
+    (
+        LAMP,
+        LAMP_START,
+        "(on)\n(done)",
+        "goals 2\ngoal 1 cost 1 (light)\ngoal 2 cost 2 (light) (end)\n",
+    ),
+    (
+        PAIR,
+        PAIR_START,
+        "(has o1)\n(has o2)",
+        "goals 2\ngoal 1 cost 0\ngoal 2 cost 1 (give o1 o2)\n",
+    ),
+    (TWICE, TWICE_START, "(q)", "goals 1\ngoal 1 cost 1 (t)\n"),
+    (
+        GUARD,
+        GUARD_START,
+        "(been vault)\n(been hall)\n(been gate)\n(in hall)\n(not gate)\n(alarm vault)",
+        "goals 6\ngoal 1 cost none\ngoal 2 cost 2 (go gate hall) (stay hall hall)\ngoal 3 cost none\ngoal 4 cost 1 (go gate hall)\ngoal 5 cost none\ngoal 6 cost 0\n",
     ),
 ];
 
@@ -117,6 +137,44 @@ fn longest_common_sequences_are_printed(rt: HostRuntime) -> Result<(), Fail> {
     Ok(())
 }
 
+/// Domains, problems and goals with negative preconditions and equalities, and their reports.
+const COMMON_WITH_NEGATIONS: &[(&str, &str, &str, &str)] = &[
+    (
+        LAMP,
+        LAMP_START,
+        "(on)\n(done)\n",
+        "goals 2\ngoal 1 cost 1 (light)\ngoal 2 cost 2 (light) (end)\n\
+        wcd 1 goals 1 2\nprefix (light)\nplan 1 (light)\nplan 2 (light) (end)\n",
+    ),
+    (
+        PAIR,
+        PAIR_START,
+        "(has o1)\n(has o2)\n",
+        "goals 2\ngoal 1 cost 0\ngoal 2 cost 1 (give o1 o2)\n\
+        wcd 0 goals 1 2\nprefix\nplan 1\nplan 2 (give o1 o2)\n",
+    ),
+    (
+        GUARD,
+        GUARD_START,
+        "(been hall)\n(in hall)\n(been vault)\n",
+        "goals 3\ngoal 1 cost 2 (go gate hall) (stay hall hall)\ngoal 2 cost 1 (go gate hall)\ngoal 3 cost none\n\
+        wcd 1 goals 1 2\nprefix (go gate hall)\nplan 1 (go gate hall) (stay hall hall)\nplan 2 (go gate hall)\n",
+    ),
+];
+
+#[test]
+fn longest_common_sequences_with_negations_are_printed(rt: HostRuntime) -> Result<(), Fail> {
+    for (domain, problem, goals, report) in COMMON_WITH_NEGATIONS {
+        let texts = Texts {
+            domain,
+            problem,
+            goals,
+        };
+        expect_run(&rt, rt.alloc(), WCD, texts, done(report))?;
+    }
+    Ok(())
+}
+
 /// The exit status of a run over so many equal goals, and whether its report begins and goes on so.
 fn many_goals(alloc: Global, count: usize, begin: &str, part: &str) -> Result<(u8, bool), Fail> {
     let goals = repeated(alloc, "(atl)\n", count)?;
@@ -144,6 +202,8 @@ fn canonical_texts_are_printed(rt: HostRuntime) -> Result<(), Fail> {
         (SHORT, SHORT_START, SHORT_SHOWN),
         (ROOMS, ROOMS_START, rooms.as_str()),
         (ROOMS_SHOWN, ROOMS_START_SHOWN, rooms.as_str()),
+        (LAMP, LAMP_START, LAMP_SHOWN),
+        (PAIR, PAIR_START, PAIR_SHOWN),
     ] {
         let texts = Texts {
             domain,

@@ -74,6 +74,78 @@ pub(crate) const LOOSE: &str = "(define (domain loose) (:requirements :typing :s
 pub(crate) const LOOSE_START: &str =
     "(define (problem p) (:init) (:requirements :strips) (:domain loose))";
 
+/// A lamp that is lit only where it is out.
+pub(crate) const LAMP: &str = "(define (domain lamp) (:predicates (on) (done))
+(:action light :precondition (not (on)) :effect (on))
+(:action end :precondition (on) :effect (done))
+(:action dark :precondition (on) :effect (not (on))))";
+
+pub(crate) const LAMP_START: &str = "(define (problem p) (:domain lamp) (:init))";
+
+pub(crate) const LAMP_SHOWN: &str = "(define (domain lamp)
+(:requirements :strips :typing :negative-preconditions)
+(:predicates (on) (done))
+(:action light
+:parameters ()
+:precondition (and (not (on)))
+:effect (and (on)))
+(:action end
+:parameters ()
+:precondition (and (on))
+:effect (and (done)))
+(:action dark
+:parameters ()
+:precondition (and (on))
+:effect (and (not (on))))
+)
+(define (problem p)
+(:domain lamp)
+(:init)
+(:goal (and)))
+";
+
+/// What one has is given to another.
+pub(crate) const PAIR: &str = "(define (domain pair) (:types t) (:predicates (has ?x - t))
+(:action give :parameters (?a - t ?b - t)
+:precondition (and (has ?a) (not (= ?a ?b)))
+:effect (and (has ?b) (not (has ?a)))))";
+
+pub(crate) const PAIR_START: &str =
+    "(define (problem p) (:domain pair) (:objects o1 o2 - t) (:init (has o1)))";
+
+pub(crate) const PAIR_SHOWN: &str = "(define (domain pair)
+(:requirements :strips :typing :equality)
+(:types t - object)
+(:predicates (has ?x - t))
+(:action give
+:parameters (?a - t ?b - t)
+:precondition (and (has ?a) (not (= ?a ?b)))
+:effect (and (has ?b) (not (has ?a))))
+)
+(define (problem p)
+(:domain pair)
+(:objects o1 - t o2 - t)
+(:init (has o1))
+(:goal (and)))
+";
+
+/// The action needs that its atom is false, and both deletes and adds it.
+pub(crate) const TWICE: &str = "(define (domain twice) (:predicates (q))
+(:action t :precondition (not (q)) :effect (and (q) (not (q)))))";
+
+pub(crate) const TWICE_START: &str = "(define (problem p) (:domain twice) (:init))";
+
+/// A guard who moves on where no alarm is on, and not to the same room; and a predicate whose name is `not`.
+pub(crate) const GUARD: &str = "(define (domain guard) (:constants gate vault)
+(:predicates (in ?r) (been ?r) (alarm ?r) (not ?r))
+(:action stay :parameters (?r ?s) :precondition (and (in ?r) (= ?r ?s) (not (= ?s gate)))
+:effect (been ?s))
+(:action go :parameters (?r ?s) :precondition (and (in ?r) (not (= ?r ?s)) (not (alarm ?s)))
+:effect (and (in ?s) (not (in ?r)))))";
+
+pub(crate) const GUARD_START: &str =
+    "(define (problem p) (:domain guard) (:objects hall) (:init (in gate) (alarm vault)))";
+
 pub(crate) const GRID: &str = "(define (domain grid)
 (:requirements :strips :typing)
 (:types cell - object)
@@ -197,6 +269,10 @@ pub(crate) const LARGE: &str = "(define (domain many) (:predicates (p ?x ?y) (q)
 /// With an atom for each two objects, and an action for each.
 pub(crate) const PAIRS: &str = "(define (domain many) (:predicates (p ?x ?y) (q))
 (:action a :parameters (?x) :effect (p ?x ?x)))";
+
+/// With an atom and its complement for each two objects, and an action for each.
+pub(crate) const WATCHED: &str = "(define (domain many) (:predicates (p ?x ?y) (q))
+(:action a :parameters (?x) :precondition (not (p ?x ?x)) :effect (p ?x ?x)))";
 
 /// With one atom, and an action for each three objects.
 pub(crate) const TRIPLES: &str = "(define (domain many) (:predicates (p) (q))

@@ -3,6 +3,7 @@ use crate::runs::{NO_FAILURE, run_on};
 use crate::samples::{Texts, WCD};
 use std::alloc::Global;
 use std::fmt::Write;
+use std::process::Abort;
 use std::test::Fail;
 
 // The atoms are (p a), (p b), (q a) and (q b), with the bits 0 to 3; a state is its bits. An action's
@@ -14,10 +15,20 @@ const LITERALS: [&str; 4] = ["(p ?x)", "(p ?y)", "(q ?x)", "(q ?y)"];
 /// More steps than states.
 const FAR: u32 = 99;
 
-/// An action by its literals.
+/// What a precondition says of the two parameters.
+#[derive(Clone, Copy)]
+enum Equality {
+    Unsaid,
+    Same,
+    Different,
+}
+
+/// An action by its literals, of which those of absent stand under `not` in the precondition.
 #[derive(Clone, Copy)]
 struct Schema {
     pre: u32,
+    absent: u32,
+    equality: Equality,
     add: u32,
     del: u32,
 }
@@ -39,12 +50,16 @@ fn four_bits(seed: &mut u64) -> u32 {
 fn random_task(seed: &mut u64) -> SmallTask {
     let mut actions = [Schema {
         pre: 0,
+        absent: 0,
+        equality: Equality::Unsaid,
         add: 0,
         del: 0,
     }; 3];
     for at in 0..3 {
         actions[at] = Schema {
             pre: four_bits(seed) & four_bits(seed),
+            absent: 0,
+            equality: Equality::Unsaid,
             add: four_bits(seed) & four_bits(seed),
             del: four_bits(seed) & four_bits(seed),
         };
@@ -56,6 +71,35 @@ fn random_task(seed: &mut u64) -> SmallTask {
             four_bits(seed) & four_bits(seed),
             four_bits(seed) & four_bits(seed),
         ],
+    }
+}
+
+fn random_equality(seed: &mut u64) -> Equality {
+    match four_bits(seed) % 3 {
+        0 => Equality::Unsaid,
+        1 => Equality::Same,
+        _ => Equality::Different,
+    }
+}
+
+/// A random task with negative preconditions and equalities.
+fn random_negative_task(seed: &mut u64) -> SmallTask {
+    let task = random_task(seed);
+    let start = task.start;
+    let goals = task.goals;
+    let mut actions = task.actions;
+    for at in 0..3 {
+        let action = actions[at];
+        actions[at] = Schema {
+            absent: four_bits(seed) & four_bits(seed),
+            equality: random_equality(seed),
+            ..action
+        };
+    }
+    SmallTask {
+        actions,
+        start,
+        goals,
     }
 }
 
@@ -84,6 +128,15 @@ fn put_set(
     Ok(())
 }
 
+/// An equality as it stands in a precondition.
+fn equality_text(equality: Equality) -> &'static str {
+    match equality {
+        Equality::Unsaid => "",
+        Equality::Same => " (= ?x ?y)",
+        Equality::Different => " (not (= ?x ?y))",
+    }
+}
+
 fn domain_text(alloc: Global, task: &SmallTask) -> Result<String, Fail> {
     let mut text = format!(in alloc;
         "(define (domain d) (:types t) (:predicates (p ?x - t) (q ?x - t))"
@@ -95,6 +148,8 @@ fn domain_text(alloc: Global, task: &SmallTask) -> Result<String, Fail> {
             "(:action a{at} :parameters (?x ?y - t) :precondition (and"
         )?;
         put_set(&mut text, &LITERALS, action.pre, "", "")?;
+        put_set(&mut text, &LITERALS, action.absent, "(not ", ")")?;
+        text.push_str(equality_text(action.equality))?;
         text.push_str(") :effect (and")?;
         put_set(&mut text, &LITERALS, action.add, "", "")?;
         put_set(&mut text, &LITERALS, action.del, "(not ", ")")?;
@@ -131,14 +186,29 @@ fn atoms_of(literals: u32, x: u32, y: u32) -> u32 {
     atoms
 }
 
+/// Whether the equality holds of these objects.
+fn is_so(equality: Equality, x: u32, y: u32) -> bool {
+    match equality {
+        Equality::Unsaid => true,
+        Equality::Same => x == y,
+        Equality::Different => x != y,
+    }
+}
+
+/// Whether the action applies in the state, where x and y have these objects.
+fn applies(action: Schema, state: u32, x: u32, y: u32) -> bool {
+    let pre = atoms_of(action.pre, x, y);
+    let absent = atoms_of(action.absent, x, y);
+    is_so(action.equality, x, y) && state & pre == pre && state & absent == 0
+}
+
 /// The states to which one step leads, as the bits of their numbers.
 fn successors(task: &SmallTask, state: u32) -> u32 {
     let mut states = 0;
     for action in task.actions {
         for objects in 0..4u32 {
             let (x, y) = (objects / 2, objects % 2);
-            let pre = atoms_of(action.pre, x, y);
-            if state & pre == pre {
+            if applies(action, state, x, y) {
                 let next = state & !atoms_of(action.del, x, y) | atoms_of(action.add, x, y);
                 states |= 1u32 << (next % 16);
             }
@@ -256,16 +326,37 @@ fn found_report(alloc: Global, task: &SmallTask) -> Result<String, Fail> {
     without_plans(alloc, outcome.out.as_str())
 }
 
+/// The program answers the task as the slow calculation does.
+fn expect_slow(
+    rt: &impl Abort,
+    alloc: Global,
+    number: u32,
+    mut task: SmallTask,
+) -> Result<(), Fail> {
+    // A goal has an atom.
+    task.goals = [task.goals[0].max(1), task.goals[1].max(1)];
+    let found = found_report(alloc, &task)?;
+    let wanted = slow_report(alloc, &task)?;
+    assert_eq!(rt; found.as_str(), wanted.as_str(), "task {number}");
+    Ok(())
+}
+
 #[test]
 fn random_tasks_are_answered_as_the_definitions_say(rt: HostRuntime) -> Result<(), Fail> {
     let mut seed = 1;
     for number in 0..200 {
-        let mut task = random_task(&mut seed);
-        // A goal has an atom.
-        task.goals = [task.goals[0].max(1), task.goals[1].max(1)];
-        let found = found_report(rt.alloc(), &task)?;
-        let wanted = slow_report(rt.alloc(), &task)?;
-        assert_eq!(rt; found.as_str(), wanted.as_str(), "task {number}");
+        expect_slow(&rt, rt.alloc(), number, random_task(&mut seed))?;
+    }
+    Ok(())
+}
+
+#[test]
+fn random_tasks_with_negations_are_answered_as_the_definitions_say(
+    rt: HostRuntime,
+) -> Result<(), Fail> {
+    let mut seed = 2;
+    for number in 0..200 {
+        expect_slow(&rt, rt.alloc(), number, random_negative_task(&mut seed))?;
     }
     Ok(())
 }

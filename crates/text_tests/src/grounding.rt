@@ -1,5 +1,5 @@
 use crate::parts::put_number;
-use crate::samples::{GRID, SHOP, SHOP_PROBLEM};
+use crate::samples::{GRID, LAMP, LAMP_PROBLEM, PAIR, PAIR_PROBLEM, SHOP, SHOP_PROBLEM};
 use crate::typed::typed_task;
 use grd_base::{ActionId, AtomId};
 use ground_all::ground;
@@ -29,6 +29,17 @@ fn sizes(alloc: Global, domain: &str, problem: &str) -> Result<String, Fail> {
     }
     Ok(out)
 }
+
+/// With negative preconditions on what is fluent and on what is static, and an equality.
+const VARIOUS: &str = "(define (domain d) (:types t u)\n\
+(:predicates (p ?x - t) (r ?x - u) (s) (h))\n\
+(:action a :parameters (?x - t ?y - u) :precondition (and (not (r ?y)) (not (s)))\n\
+:effect (and (not (p ?x)) (r ?y)))\n\
+(:action b :parameters (?y ?z - u) :precondition (and (not (= ?y ?z)) (not (h)))\n\
+:effect (and (not (r ?y)) (r ?z) (not (h)))))";
+
+const VARIOUS_PROBLEM: &str =
+    "(define (problem p) (:domain d) (:objects x - t y z - u) (:init (r z)))";
 
 /// Domains and problems, and the sizes of their world.
 const WORLDS: &[(&str, &str, &str)] = &[
@@ -62,6 +73,35 @@ const WORLDS: &[(&str, &str, &str)] = &[
         "(define (problem p) (:domain d) (:init))",
         "1 0 0",
     ),
+    (LAMP, LAMP_PROBLEM, "3 3 3"),
+    (PAIR, PAIR_PROBLEM, "2 4 2"),
+    (VARIOUS, VARIOUS_PROBLEM, "7 6 4"),
+    (
+        "(define (domain d) (:predicates (on) (off))(:action a :precondition (not (off)) :effect (on)))",
+        "(define (problem p) (:domain d) (:init))",
+        "1 1 1",
+    ),
+    (
+        "(define (domain d) (:predicates (on) (off))(:action a :precondition (not (off)) :effect (on)))",
+        "(define (problem p) (:domain d) (:init (off)))",
+        "1 1 0",
+    ),
+    // It never applies, but nothing static blocks it.
+    (
+        "(define (domain d) (:predicates (on))(:action a :precondition (and (on) (not (on))) :effect (on)))",
+        "(define (problem p) (:domain d) (:init))",
+        "2 1 1",
+    ),
+    (
+        "(define (domain d) (:constants k)(:predicates (p ?x ?y))(:action a :parameters (?x ?y) :precondition (and (not (p ?x k)) (= ?x ?y)) :effect (p ?x k)))",
+        "(define (problem p) (:domain d) (:objects o q)(:init))",
+        "18 9 3",
+    ),
+    (
+        "(define (domain d) (:constants k)(:predicates (p ?x))(:action a :parameters (?x) :precondition (not (= k ?x)) :effect (p ?x)))",
+        "(define (problem p) (:domain d) (:objects o q)(:init))",
+        "3 3 2",
+    ),
 ];
 
 #[test]
@@ -89,12 +129,24 @@ const PAIRS: &str = "(define (domain d) (:predicates (p ?x ?y))\n\
 const TRIPLES: &str = "(define (domain d) (:predicates (p) (q ?x))\n\
 (:action a :parameters (?x ?y ?z) :precondition (q ?x) :effect (p)))";
 
+/// Each atom has a complement.
+const WATCHED: &str = "(define (domain d) (:predicates (p ?x ?y))\n\
+(:action a :parameters (?x) :precondition (not (p ?x ?x)) :effect (p ?x ?x)))";
+
+/// One in two atoms has a complement.
+const HALF_WATCHED: &str = "(define (domain d) (:predicates (p ?x ?y) (q ?x ?y))\n\
+(:action a :parameters (?x) :precondition (not (q ?x ?x)) :effect (and (p ?x ?x) (q ?x ?x))))";
+
 /// Domains with a number of objects, and the sizes of their world.
 const LIMITS: &[(&str, u32, &str)] = &[
     (PAIRS, 55, "3025 55 55"),
     (PAIRS, 56, "3136 atoms, limit 3072"),
     (TRIPLES, 101, "1 1030301 0"),
     (TRIPLES, 102, "1061208 actions, limit 1048576"),
+    (WATCHED, 39, "3042 39 39"),
+    (WATCHED, 40, "3200 atoms, limit 3072"),
+    (HALF_WATCHED, 32, "3072 32 32"),
+    (HALF_WATCHED, 33, "3267 atoms, limit 3072"),
 ];
 
 #[test]
@@ -186,15 +238,118 @@ fn action_names(alloc: Global, domain: &str, problem: &str) -> Result<String, Fa
     Ok(out)
 }
 
+/// Domains and problems, and the names of the atoms and of the actions.
+const NAMES: &[(&str, &str, &str, &str)] = &[
+    (
+        SHOP,
+        SHOP_PROBLEM,
+        "(open)(in tea door)(in tea shelf)(seen door)(seen shelf)",
+        "(go door door)(go door shelf)(go shelf door)(go shelf shelf)(put tea)",
+    ),
+    (
+        LAMP,
+        LAMP_PROBLEM,
+        "(on)(done)(not (on))",
+        "(light)(end)(dark)",
+    ),
+    (
+        PAIR,
+        PAIR_PROBLEM,
+        "(has o1)(has o2)",
+        "(give o1 o1)(give o1 o2)(give o2 o1)(give o2 o2)",
+    ),
+    (
+        VARIOUS,
+        VARIOUS_PROBLEM,
+        "(p x)(r y)(r z)(h)(not (r y))(not (r z))(not (h))",
+        "(a x y)(a x z)(b y y)(b y z)(b z y)(b z z)",
+    ),
+];
+
 #[test]
 fn names_are_written_by_number(rt: HostRuntime) -> Result<(), Fail> {
-    assert_eq!(rt;
-        atom_names(rt.alloc(), SHOP, SHOP_PROBLEM)?.as_str(),
-        "(open)(in tea door)(in tea shelf)(seen door)(seen shelf)"
-    );
-    assert_eq!(rt;
-        action_names(rt.alloc(), SHOP, SHOP_PROBLEM)?.as_str(),
-        "(go door door)(go door shelf)(go shelf door)(go shelf shelf)(put tea)"
-    );
+    for (domain, problem, atoms, actions) in NAMES {
+        let found = atom_names(rt.alloc(), domain, problem)?;
+        assert_eq!(rt; found.as_str(), *atoms);
+        let found = action_names(rt.alloc(), domain, problem)?;
+        assert_eq!(rt; found.as_str(), *actions);
+    }
+    Ok(())
+}
+
+/// The numbers of atoms, behind a text.
+fn put_atoms(out: &mut String, front: &str, atoms: &[AtomId]) -> Result<(), Fail> {
+    out.push_str(front)?;
+    for atom in atoms {
+        put_number(out, " ", atom.0)?;
+    }
+    Ok(())
+}
+
+/// What holds at the start of a task, and what each of its actions needs, adds and deletes.
+fn task_of(alloc: Global, domain: &str, problem: &str) -> Result<String, Fail> {
+    let typed = typed_task(alloc, domain, problem)?;
+    let world = ground(alloc, &typed, &[])?;
+    let task = world.task();
+    let mut out = String::new(alloc);
+    put_atoms(&mut out, "start", &task.init)?;
+    for action in &task.actions {
+        let front = if action.blocked {
+            "\nblocked needs"
+        } else {
+            "\nneeds"
+        };
+        put_atoms(&mut out, front, &action.pre)?;
+        put_atoms(&mut out, " adds", &action.add)?;
+        put_atoms(&mut out, " deletes", &action.del)?;
+    }
+    Ok(out)
+}
+
+/// Domains and problems, and their tasks.
+const TASKS: &[(&str, &str, &str)] = &[
+    (
+        LAMP,
+        LAMP_PROBLEM,
+        "start 2\n\
+needs 2 adds 0 deletes 2\n\
+needs 0 adds 1 deletes\n\
+needs 0 adds 2 deletes 0",
+    ),
+    (
+        PAIR,
+        PAIR_PROBLEM,
+        "start 0\n\
+blocked needs 0 adds 0 deletes 0\n\
+needs 0 adds 1 deletes 0\n\
+needs 1 adds 0 deletes 1\n\
+blocked needs 1 adds 1 deletes 1",
+    ),
+    (
+        VARIOUS,
+        VARIOUS_PROBLEM,
+        "start 2 4 6\n\
+needs 4 adds 1 deletes 0 4\n\
+needs 5 adds 2 deletes 0 5\n\
+blocked needs 6 adds 1 6 deletes 1 3 4\n\
+needs 6 adds 2 4 6 deletes 1 3 5\n\
+needs 6 adds 1 5 6 deletes 2 3 4\n\
+blocked needs 6 adds 2 6 deletes 2 3 5",
+    ),
+    // What is deleted and added is true, so its complement is not.
+    (
+        "(define (domain d) (:predicates (q))(:action t :precondition (not (q)) :effect (and (q) (not (q)))))",
+        "(define (problem p) (:domain d) (:init))",
+        "start 1\n\
+needs 1 adds 0 deletes 0 1",
+    ),
+];
+
+#[test]
+fn complements_are_needed_added_and_deleted(rt: HostRuntime) -> Result<(), Fail> {
+    for (domain, problem, want) in TASKS {
+        let found = task_of(rt.alloc(), domain, problem)?;
+        assert_eq!(rt; found.as_str(), *want, "{domain}");
+    }
     Ok(())
 }

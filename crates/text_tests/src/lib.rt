@@ -11,13 +11,19 @@
 //! - `reader.rt`: domains and problems, and what is at fault in one.
 //! - `printer.rt`: canonical texts.
 //! - `typing.rt`: typed tasks, and the first rule that is broken.
+//! - `equalities.rt`: how negative preconditions and equalities are typed.
 //! - `typed.rt`: the typed task of two texts.
 //! - `goals.rt`: goals and observations.
 //! - `grounding.rt`: grounded worlds, and the names of their atoms and actions.
+//! - `certificates.rt`: the lines of certificates.
 #![tactic(auto)]
 
 #[cfg(test)]
+mod certificates;
+#[cfg(test)]
 mod devices;
+#[cfg(test)]
+mod equalities;
 #[cfg(test)]
 mod goals;
 #[cfg(test)]

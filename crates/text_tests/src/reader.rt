@@ -1,6 +1,6 @@
 use crate::parts::put_name;
 use crate::samples::{
-    FORK, FORK_PROBLEM, GRID, GRID_PROBLEM, KEEP, KEEP_PROBLEM, WORLD, WORLD_PROBLEM,
+    FORK, FORK_PROBLEM, GRID, GRID_PROBLEM, KEEP, KEEP_PROBLEM, LAMP, PAIR, WORLD, WORLD_PROBLEM,
 };
 use pddl_reader::{
     Domain, Literal, Predicate, Problem, Schema, Term, TypedName, read_domain, read_problem,
@@ -185,6 +185,46 @@ action rest@224:\n\
 precondition\n\
 effect\n",
     ),
+    (
+        LAMP,
+        "domain lamp@16\n\
+types\n\
+constants\n\
+predicate on@36:\n\
+predicate done@41:\n\
+action light@57:\n\
+precondition not on@83;\n\
+effect on@97;\n\
+action end@111:\n\
+precondition on@130;\n\
+effect done@143;\n\
+action dark@159:\n\
+precondition on@179;\n\
+effect not on@197;\n",
+    ),
+    (
+        PAIR,
+        "domain pair@16\n\
+types t@30 - object@30;\n\
+constants\n\
+predicate has@47: ?x@51 - t@56;\n\
+action give@69: ?a@87 - t@92; ?b@94 - t@99;\n\
+precondition has@122 variable ?a@126; not =@136 variable ?a@138 variable ?b@141;\n\
+effect has@161 variable ?b@165; not has@175 variable ?a@179;\n",
+    ),
+    // With equalities of one and of three terms, and names that are words of conditions elsewhere.
+    (
+        "(define (domain e) (:predicates (and) (not ?x))\n\
+(:action a :precondition (and (= ?X) (= ?x ?x) (NOT (= C ?y c)) (and (not (p ?x)) (= not and))) :effect (not (p x))))",
+        "domain e@16\n\
+types\n\
+constants\n\
+predicate and@33:\n\
+predicate not@39: ?x@43 - object@43;\n\
+action a@57:\n\
+precondition =@79 variable ?x@81; =@86 variable ?x@88 variable ?x@91; not =@101 c@103 variable ?y@105 c@108; not p@123 variable ?x@125; =@131 not@133 and@137;\n\
+effect not p@158 x@160;\n",
+    ),
 ];
 
 /// Sample problems, and what they hold.
@@ -330,6 +370,10 @@ const SECTION_FAULTS: &[(&str, &str)] = &[
     ("(define (domain d) (:predicates p))", "byte 32: shape"),
     ("(define (domain d) (:predicates ()))", "byte 32: shape"),
     ("(define (domain d) (:predicates (?p)))", "byte 33: shape"),
+    (
+        "(define (domain d) (:predicates (= ?x ?y)))",
+        "byte 33: shape",
+    ),
     ("(define (domain d) (:predicates (p x)))", "byte 35: shape"),
     (
         "(define (domain d) (:predicates (p ?x -)))",
@@ -473,16 +517,12 @@ const ACTION_FAULTS: &[(&str, &str)] = &[
         "byte 44: unsupported numeric condition",
     ),
     (
-        "(define (domain d) (:action a :precondition (= ?x ?x)))",
-        "byte 44: unsupported equality",
+        "(define (domain d) (:action a :effect (= ?x ?x)))",
+        "byte 38: unsupported equality",
     ),
     (
         "(define (domain d) (:action a :effect (not (= ?x ?x))))",
         "byte 43: unsupported equality",
-    ),
-    (
-        "(define (domain d) (:action a :precondition (not)))",
-        "byte 44: unsupported negative precondition",
     ),
     (
         "(define (domain d) (:action a :precondition (?x) :effect))",
@@ -501,6 +541,124 @@ const ACTION_FAULTS: &[(&str, &str)] = &[
 #[test]
 fn first_fault_of_an_action_is_named_with_its_place(rt: HostRuntime) -> Result<(), Fail> {
     for (text, want) in ACTION_FAULTS {
+        assert_eq!(rt; domain_of(rt.alloc(), text)?.as_str(), *want, "{text}");
+    }
+    Ok(())
+}
+
+/// Domains with a fault in what is negated or in an equality, and the first.
+const NEGATION_FAULTS: &[(&str, &str)] = &[
+    (
+        "(define (domain d) (:action a :precondition (not)))",
+        "byte 44: shape",
+    ),
+    (
+        "(define (domain d) (:action a :precondition (not p)))",
+        "byte 49: shape",
+    ),
+    (
+        "(define (domain d) (:action a :precondition (not ())))",
+        "byte 49: shape",
+    ),
+    (
+        "(define (domain d) (:action a :precondition (not ((p)))))",
+        "byte 50: shape",
+    ),
+    (
+        "(define (domain d) (:action a :precondition (not (?x))))",
+        "byte 50: shape",
+    ),
+    (
+        "(define (domain d) (:action a :precondition (not (not (p)))))",
+        "byte 50: shape",
+    ),
+    (
+        "(define (domain d) (:action a :precondition (not (and (p)))))",
+        "byte 50: shape",
+    ),
+    (
+        "(define (domain d) (:action a :precondition (not (OR (p)))))",
+        "byte 49: unsupported disjunction",
+    ),
+    (
+        "(define (domain d) (:action a :precondition (not (imply))))",
+        "byte 49: unsupported implication",
+    ),
+    (
+        "(define (domain d) (:action a :precondition (not (when))))",
+        "byte 49: unsupported conditional effect",
+    ),
+    (
+        "(define (domain d) (:action a :precondition (not (<= 1 2))))",
+        "byte 49: unsupported numeric condition",
+    ),
+    (
+        "(define (domain d) (:action a :precondition (not (p) (q))))",
+        "byte 53: shape",
+    ),
+    (
+        "(define (domain d) (:action a :precondition (not (p) (or))))",
+        "byte 53: shape",
+    ),
+    (
+        "(define (domain d) (:action a :precondition (not (or) (p))))",
+        "byte 49: unsupported disjunction",
+    ),
+    (
+        "(define (domain d) (:action a :precondition (not (p ()) (q))))",
+        "byte 52: shape",
+    ),
+    (
+        "(define (domain d) (:action a :precondition (not (= ?x ?x) (p))))",
+        "byte 59: shape",
+    ),
+    (
+        "(define (domain d) (:action a :precondition (=)))",
+        "byte 44: shape",
+    ),
+    (
+        "(define (domain d) (:action a :precondition (not (=))))",
+        "byte 49: shape",
+    ),
+    (
+        "(define (domain d) (:action a :precondition (= (f) 3)))",
+        "byte 47: shape",
+    ),
+    (
+        "(define (domain d) (:action a :precondition (= ?x :x)))",
+        "byte 50: shape",
+    ),
+    (
+        "(define (domain d) (:action a :precondition (= ?x =)))",
+        "byte 50: shape",
+    ),
+    (
+        "(define (domain d) (:action a :precondition (and (not (p)) (=) (or))))",
+        "byte 59: shape",
+    ),
+    (
+        "(define (domain d) (:action a :precondition (=) :effect (=)))",
+        "byte 44: shape",
+    ),
+    (
+        "(define (domain d) (:action a :effect (=) :precondition (=)))",
+        "byte 38: unsupported equality",
+    ),
+    (
+        "(define (domain d) (:action a :effect (not (=))))",
+        "byte 43: unsupported equality",
+    ),
+    (
+        "(define (domain d) (:action a :effect (and (p) (= ?x ?x))))",
+        "byte 47: unsupported equality",
+    ),
+];
+
+#[test]
+fn first_fault_of_a_negation_or_an_equality_is_named_with_its_place(
+    rt: HostRuntime,
+) -> Result<(), Fail> {
+    for (text, want) in NEGATION_FAULTS {
         assert_eq!(rt; domain_of(rt.alloc(), text)?.as_str(), *want, "{text}");
     }
     Ok(())
@@ -563,6 +721,15 @@ const PROBLEM_FAULTS: &[(&str, &str)] = &[
         "(define (problem p) (:init (= (f) 3)))",
         "byte 27: unsupported numeric condition",
     ),
+    (
+        "(define (problem p) (:init (=)))",
+        "byte 27: unsupported numeric condition",
+    ),
+    (
+        "(define (problem p) (:init (not)))",
+        "byte 27: unsupported negative initial atom",
+    ),
+    ("(define (problem p) (:init (p =)))", "byte 30: shape"),
     (
         "(define (problem p) (:init (forall (?x))))",
         "byte 27: unsupported quantifier",

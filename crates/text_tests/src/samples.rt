@@ -49,6 +49,23 @@ pub const WORLD_PROBLEM: &str = "(DEFINE\t(PROBLEM NEXT)\n\
 (:REQUIREMENTS)\n\
 (:DOMAIN WORLD))";
 
+/// A lamp that is lit only where it is out.
+pub const LAMP: &str = "(define (domain lamp) (:predicates (on) (done))\n\
+(:action light :precondition (not (on)) :effect (on))\n\
+(:action end :precondition (on) :effect (done))\n\
+(:action dark :precondition (on) :effect (not (on))))";
+
+pub const LAMP_PROBLEM: &str = "(define (problem p) (:domain lamp) (:init))";
+
+/// What one has is given to another.
+pub const PAIR: &str = "(define (domain pair) (:types t) (:predicates (has ?x - t))\n\
+(:action give :parameters (?a - t ?b - t)\n\
+:precondition (and (has ?a) (not (= ?a ?b)))\n\
+:effect (and (has ?b) (not (has ?a)))))";
+
+pub const PAIR_PROBLEM: &str =
+    "(define (problem p) (:domain pair) (:objects o1 o2 - t) (:init (has o1)))";
+
 /// A truck lies four types below a place.
 pub const VEHICLES: &str = "(define (domain d)\n\
 (:types truck car - vehicle vehicle - movable movable - thing thing city - place)\n\

@@ -100,7 +100,7 @@ fn put_checked(out: &mut String, made: &Result<Typed, CheckTypeFault>) -> Result
 }
 
 /// What a domain and a problem make.
-fn typed_of(alloc: Global, domain: &str, problem: &str) -> Result<String, Fail> {
+pub fn typed_of(alloc: Global, domain: &str, problem: &str) -> Result<String, Fail> {
     let made = check_texts(alloc, domain, problem)?;
     let mut out = String::new(alloc);
     put_checked(&mut out, &made)?;
@@ -128,7 +128,7 @@ fn type_fault(alloc: Global, domain: &str, problem: &str) -> Result<Option<TypeF
 }
 
 /// The fault of a domain and a problem, with its file.
-fn fault_of(alloc: Global, domain: &str, problem: &str) -> Result<String, Fail> {
+pub fn fault_of(alloc: Global, domain: &str, problem: &str) -> Result<String, Fail> {
     let fault = type_fault(alloc, domain, problem)?;
     let mut out = String::new(alloc);
     match fault {
@@ -632,32 +632,37 @@ fn first_broken_rule_is_named(rt: HostRuntime) -> Result<(), Fail> {
     Ok(())
 }
 
-/// The fault of a domain with an action `a` whose precondition and effect have so many literals.
-fn literals_fault(alloc: Global, pre: u16, effect: u16) -> Result<String, Fail> {
+/// The fault of a domain with an action `a` whose precondition has a literal so many times, and whose effect
+/// has so many literals.
+fn literals_fault(alloc: Global, literal: &str, pre: u16, effect: u16) -> Result<String, Fail> {
     let mut domain = String::from_str(alloc, "(define (domain d) (:action a :precondition (and")?;
     for _ in 0..pre {
-        domain.push_str(" (p)")?;
+        domain.push_str(literal)?;
     }
     domain.push_str(") :effect (and")?;
     for _ in 0..effect {
         domain.push_str(" (p)")?;
     }
-    domain.push_str(")) (:predicates (p)))")?;
+    domain.push_str(")) (:predicates (p)) (:constants c))")?;
     fault_of(alloc, domain.as_str(), PLAIN_PROBLEM)
 }
 
-const LITERALS: &[(u16, u16, &str)] = &[
-    (64, 0, "typed"),
-    (20, 44, "typed"),
-    (65, 0, "domain byte 28: too many literals"),
-    (1, 64, "domain byte 28: too many literals"),
+const LITERALS: &[(&str, u16, u16, &str)] = &[
+    (" (p)", 64, 0, "typed"),
+    (" (p)", 20, 44, "typed"),
+    (" (p)", 65, 0, "domain byte 28: too many literals"),
+    (" (p)", 1, 64, "domain byte 28: too many literals"),
+    (" (not (p))", 20, 44, "typed"),
+    (" (not (p))", 1, 64, "domain byte 28: too many literals"),
+    (" (= c c)", 20, 44, "typed"),
+    (" (= c)", 1, 64, "domain byte 28: too many literals"),
 ];
 
 #[test]
 fn action_has_at_most_64_literals(rt: HostRuntime) -> Result<(), Fail> {
-    for (pre, effect, want) in LITERALS {
-        let found = literals_fault(rt.alloc(), *pre, *effect)?;
-        assert_eq!(rt; found.as_str(), *want, "{pre}");
+    for (literal, pre, effect, want) in LITERALS {
+        let found = literals_fault(rt.alloc(), literal, *pre, *effect)?;
+        assert_eq!(rt; found.as_str(), *want, "{pre}{literal}");
     }
     Ok(())
 }
