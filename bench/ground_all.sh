@@ -3,6 +3,7 @@
 # that was held: `cost` is asked for a goal that holds at the start, so that next to nothing is searched.
 # grid: cells in a square, and one action of two cells; few instances are not blocked.
 # triples: one action of three objects of any type; no instance is blocked.
+# apart: the same, where two of the objects differ and an atom must be false; few instances are blocked.
 set -eu
 top=$(cd "$(dirname "$0")/.." && pwd)
 cd "$top/crates/grd"
@@ -51,7 +52,15 @@ def triples(n):
     return n**3, domain, " ".join(f"o{i}" for i in range(n)), "(done)", "(done)"
 
 
-instances, domain, objects, init, goal = {"grid": grid, "triples": triples}[kind](size)
+def apart(n):
+    """n objects: n ** 3 instances, and n complements."""
+    domain = """(define (domain made) (:predicates (done) (seen ?x))
+(:action look :parameters (?x ?y ?z) :precondition (and (not (= ?x ?y)) (not (seen ?x)))
+:effect (seen ?x)))"""
+    return n**3, domain, " ".join(f"o{i}" for i in range(n)), "(done)", "(done)"
+
+
+instances, domain, objects, init, goal = {"grid": grid, "triples": triples, "apart": apart}[kind](size)
 texts = {
     "domain": domain,
     "problem": f"(define (problem made) (:domain made) (:objects {objects}) (:init {init}))",
@@ -62,7 +71,7 @@ for name, text in texts.items():
         file.write(text + "\n")
 print(f"{kind} {size}: {instances} instances")
 END
-for task in "grid 10" "grid 20" "grid 31" "triples 50" "triples 101"; do
+for task in "grid 10" "grid 20" "grid 31" "triples 50" "triples 101" "apart 50" "apart 101"; do
     # Two words: the kind of task and its size.
     title=$(python3 "$work/make.py" $task "$work")
     python3 "$work/run.py" "$title" "$program" cost --domain "$work/domain" --problem "$work/problem" --goals "$work/goals"

@@ -49,19 +49,21 @@ rooms=../../examples/rooms
 refused=../../examples/refused
 logistics=../../examples/logistics
 campus=../../examples/campus
-for files in "$fork" "$keep" "$loose" "$logistics" "$campus"; do
+lights=../../examples/lights
+tower=../../examples/tower
+for files in "$fork" "$keep" "$loose" "$logistics" "$campus" "$lights" "$tower"; do
     check 0 "$files/expected.txt" "" cost --domain "$files/domain.pddl" --problem "$files/problem.pddl" --goals "$files/goals.txt"
 done
 on_fork=(--domain "$fork/domain.pddl" --problem "$fork/problem.pddl")
 check 0 "$fork/expected_wcd.txt" "" wcd "${on_fork[@]}" --goals "$fork/two_goals.txt"
 check 0 "$fork/expected_wcd.txt" "" wcd --max-states=5 "${on_fork[@]}" "--goals=$fork/two_goals.txt"
-for files in "$logistics" "$campus"; do
+for files in "$logistics" "$campus" "$lights" "$tower"; do
     check 0 "$files/expected_wcd.txt" "" wcd --domain "$files/domain.pddl" --problem "$files/problem.pddl" --goals "$files/goals.txt"
 done
 for files in grid blocks gripper; do
     check_costs "../../examples/$files"
 done
-for files in "$keep" "$rooms"; do
+for files in "$keep" "$rooms" "$lights" "$tower"; do
     check 0 "$files/expected_show.txt" "" show --domain "$files/domain.pddl" --problem "$files/problem.pddl"
 done
 
@@ -70,8 +72,10 @@ check_files "grd: domain: byte 0: unclosed" "$refused/unclosed.pddl" "$fork/prob
 check_files "grd: domain: byte 38: unsupported numeric effect" "$refused/numeric_effect.pddl" "$fork/problem.pddl"
 check_files "grd: problem: byte 0: unclosed" "$refused/unknown_type.pddl" "$refused/unclosed.pddl"
 check_files "grd: domain: byte 59: unknown type" "$refused/unknown_type.pddl" "$keep/problem.pddl"
+check_files "grd: domain: byte 65: wrong count" "$refused/one_term.pddl" "$fork/problem.pddl"
 check_files "grd: problem: byte 29: other domain" "$fork/domain.pddl" "$keep/problem.pddl"
 check 1 /dev/null "grd: 3136 atoms, limit 3072" cost --domain "$refused/many_atoms.pddl" --problem "$fork/problem.pddl" --goals "$refused/at_start.txt"
+check 1 /dev/null "grd: 3200 atoms, limit 3072" cost --domain "$refused/many_complements.pddl" --problem "$fork/problem.pddl" --goals "$refused/at_start.txt"
 check 1 /dev/null "grd: goals: line 3: unknown atom" wcd "${on_fork[@]}" --goals "$fork/unknown_atom.txt"
 check 1 /dev/null "grd: problem: byte 0: unclosed" show --domain "$rooms/domain.pddl" --problem "$refused/unclosed.pddl"
 check 2 /dev/null "grd: usage: no command"

@@ -1,0 +1,1 @@
+(define (domain fork) (:action a :parameters (?x) :precondition (= ?x)))
